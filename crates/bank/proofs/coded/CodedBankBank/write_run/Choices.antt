@@ -1,0 +1,11 @@
+use mathlib.Core.List.{map}
+use mathlib.Core.Path.{_≡_}
+use lib.ListN.{take}
+use denote.Ref.{now}
+use Rattle.bank.specs.Hamming.{codeWord}
+use Rattle.bank.specs.Runs.{writeRun}
+use Rattle.bank.proofs.coded.CodedBankBank.write_run.Given as given
+
+-- the words of the bytes passed are written
+abbrev pub Inv-loop-i : given.InvT-loop-i
+Inv-loop-i l = now (l .self .memory) ≡ writeRun (now (l .entry .self .memory)) (l .from) (map codeWord (take (l .i) (l .source)))

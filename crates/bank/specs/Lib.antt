@@ -1,0 +1,3 @@
+pub mod Hamming
+pub mod Runs
+pub mod Units
