@@ -6,10 +6,10 @@ use Prim.Native.Nat.{ℕ, zero, suc, min, _+_, _-_, _<_, _≤_}
 use native.Mathlib.Omega.{arith}
 use lib.ListN.{length, getD, set, take}
 use Rattle.std.proofs.shelf.Lists.{length-map, length-take-le, map-set, take-map, getD-map}
-use Rattle.bank.specs.Hamming.{codeWord, decoded}
+use Rattle.hamming.specs.Code.{codeWord, decoded}
 use Rattle.bank.specs.Runs.{writeRun}
 use Rattle.bank.specs.Units.{used, unused}
-use Rattle.bank.proofs.Corrects.{word-back}
+use Rattle.hamming.proofs.Corrects.{word-back}
 use Rattle.bank.proofs.RunLaws.{writeRun-cut, writeRun-more}
 use Rattle.bank.proofs.UnitLaws.{length-used, writeRun-used, writeRun-unused}
 

@@ -153,3 +153,15 @@ filled-run l a n k out zeros e same inside z = cut ∙ is-readRun l a (take k ou
               getD-append-right (take k out) (replicate (n - k) 0) k i 0 front past
               ∙ getD-replicate (n - k) (i - k) 0 0 (omega (arith, whole)) ∙ sym (getD-past l (a + i) 0 (omega (arith, whole)))
         ]
+
+-- a run over the whole list
+pub writeRun-whole : (l bs : List ℕ) → length l ≡ length bs → writeRun l 0 bs ≡ bs
+writeRun-whole l bs e =
+    same-lists (writeRun l 0 bs) bs (length-writeRun l 0 bs ∙ e)
+    λ k d h.
+    let inside : k < length l = omega (arith, length-writeRun l 0 bs) in
+    getD-default (writeRun l 0 bs) k d 0 h ∙ ap (λ (m : ℕ). getD (writeRun l 0 bs) m 0) (sym (zero-add k))
+    ∙ getD-writeRun-inside l 0 bs k (omega arith) (rw zero-add inside) ∙ getD-default bs k 0 d (omega arith)
+
+pub readRun-whole : (l : List ℕ) → readRun l 0 (length l) ≡ l
+readRun-whole l = sym (is-readRun l 0 l (λ k h. rw zero-add))

@@ -1,3 +1,2 @@
-pub mod Hamming
 pub mod Runs
 pub mod Units

@@ -1,14 +1,13 @@
 // The coded bank: one byte in each 16-bit word of the memory that is lent to it, as its code word.
 // A byte is read although one of the twelve bits of its word has turned.
-ghost use Rattle.bank.specs.Hamming.{codeWord, decoded};
+ghost use Rattle.hamming.specs.Code.{codeWord, decoded};
 ghost use Rattle.bank.specs.Runs.{writeRun};
 ghost use Rattle.bank.specs.Units.{unused, used};
-ghost use denote.Ref.{now};
+ghost use denote.Ref.{now, name};
 ghost use lib.ListN.{set};
 ghost use mathlib.Core.List.{map};
 ghost use mathlib.Core.Path.{_≡_};
 use crate::Bank;
-use crate::hamming;
 use crate::units;
 
 #[derive(Drop)]
@@ -19,17 +18,10 @@ pub struct CodedBank<'a> {
 impl<'a> CodedBank<'a> {
     // A bank over the first 65,536 words of the memory, or all if they are fewer.
     pub fn new(memory: &'a mut [u16]) -> CodedBank<'a>
-        ensures { λ r. ⌜ now (r .memory) ≡ now (memory .entry) ⌝ }
+        ensures value { λ r. ⌜ now (r .memory) ≡ now (memory .entry) ⌝ }
+        ensures lent { λ r. ⌜ name (r .memory) ≡ name (memory .entry) ⌝ }
     {
         CodedBank { memory }
-    }
-
-    // Ends the loan of the memory.
-    pub fn into_memory(self) -> &'a mut [u16]
-        ensures { λ r. ⌜ now r ≡ now (self .entry .memory) ⌝ }
-    {
-        let CodedBank { memory } = self;
-        memory
     }
 }
 
@@ -50,6 +42,7 @@ pub impl Bank for CodedBank<'_> as CodedBankBank {
     fn write(&mut self, address: u32, byte: u8)
         ensures means { λ _. ⌜ map decoded (used (now (now (self .exit) .memory))) ≡ set (map decoded (used (now (now (self .entry) .memory)))) address byte ⌝ }
         ensures coded { λ _. ⌜ used (now (now (self .exit) .memory)) ≡ set (used (now (now (self .entry) .memory))) address (codeWord byte) ⌝ }
+        ensures lent { λ _. ⌜ name (now (self .exit) .memory) ≡ name (now (self .entry) .memory) ⌝ }
         ensures rest { λ _. ⌜ unused (now (now (self .exit) .memory)) ≡ unused (now (now (self .entry) .memory)) ⌝ }
     {
         units::put(self.memory, address, hamming::encode(byte));
@@ -58,6 +51,7 @@ pub impl Bank for CodedBank<'_> as CodedBankBank {
     fn write_run(&mut self, address: u32, source: &[u8])
         ensures means { λ _. ⌜ map decoded (used (now (now (self .exit) .memory))) ≡ writeRun (map decoded (used (now (now (self .entry) .memory)))) address (now (source .entry)) ⌝ }
         ensures coded { λ _. ⌜ used (now (now (self .exit) .memory)) ≡ writeRun (used (now (now (self .entry) .memory))) address (map codeWord (now (source .entry))) ⌝ }
+        ensures lent { λ _. ⌜ name (now (self .exit) .memory) ≡ name (now (self .entry) .memory) ⌝ }
         ensures rest { λ _. ⌜ unused (now (now (self .exit) .memory)) ≡ unused (now (now (self .entry) .memory)) ⌝ }
     {
         let (from, inside) = units::clip(units::count(self.memory.len()), address, source.len());

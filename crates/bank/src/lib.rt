@@ -6,7 +6,6 @@ ghost use mathlib.Core.List.{List};
 ghost use mathlib.Core.Path.{_≡_};
 
 pub mod coded;
-pub mod hamming;
 pub mod plain;
 mod units;
 

@@ -1,7 +1,7 @@
 // The plain bank: one byte in each byte of the memory that is lent to it.
 ghost use Rattle.bank.specs.Runs.{writeRun};
 ghost use Rattle.bank.specs.Units.{unused, used};
-ghost use denote.Ref.{now};
+ghost use denote.Ref.{now, name};
 ghost use lib.ListN.{set};
 ghost use mathlib.Core.Path.{_≡_};
 use crate::Bank;
@@ -15,17 +15,10 @@ pub struct PlainBank<'a> {
 impl<'a> PlainBank<'a> {
     // A bank over the first 65,536 bytes of the memory, or all if they are fewer.
     pub fn new(memory: &'a mut [u8]) -> PlainBank<'a>
-        ensures { λ r. ⌜ now (r .memory) ≡ now (memory .entry) ⌝ }
+        ensures value { λ r. ⌜ now (r .memory) ≡ now (memory .entry) ⌝ }
+        ensures lent { λ r. ⌜ name (r .memory) ≡ name (memory .entry) ⌝ }
     {
         PlainBank { memory }
-    }
-
-    // Ends the loan of the memory.
-    pub fn into_memory(self) -> &'a mut [u8]
-        ensures { λ r. ⌜ now r ≡ now (self .entry .memory) ⌝ }
-    {
-        let PlainBank { memory } = self;
-        memory
     }
 }
 
@@ -45,6 +38,7 @@ pub impl Bank for PlainBank<'_> as PlainBankBank {
 
     fn write(&mut self, address: u32, byte: u8)
         ensures means { λ _. ⌜ used (now (now (self .exit) .memory)) ≡ set (used (now (now (self .entry) .memory))) address byte ⌝ }
+        ensures lent { λ _. ⌜ name (now (self .exit) .memory) ≡ name (now (self .entry) .memory) ⌝ }
         ensures rest { λ _. ⌜ unused (now (now (self .exit) .memory)) ≡ unused (now (now (self .entry) .memory)) ⌝ }
     {
         units::put(self.memory, address, byte);
@@ -58,6 +52,7 @@ pub impl Bank for PlainBank<'_> as PlainBankBank {
 
     fn write_run(&mut self, address: u32, source: &[u8])
         ensures means { λ _. ⌜ used (now (now (self .exit) .memory)) ≡ writeRun (used (now (now (self .entry) .memory))) address (now (source .entry)) ⌝ }
+        ensures lent { λ _. ⌜ name (now (self .exit) .memory) ≡ name (now (self .entry) .memory) ⌝ }
         ensures rest { λ _. ⌜ unused (now (now (self .exit) .memory)) ≡ unused (now (now (self .entry) .memory)) ⌝ }
     {
         let (from, inside) = units::clip(units::count(self.memory.len()), address, source.len());

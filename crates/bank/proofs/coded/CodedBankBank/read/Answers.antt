@@ -3,7 +3,7 @@ use mathlib.Core.List.{List, map}
 use Prim.Native.Nat.{ℕ, _<_, _≤_}
 use lib.ListN.{length, getD}
 use Rattle.std.proofs.shelf.Lists.{getD-past, getD-map, length-map}
-use Rattle.bank.specs.Hamming.{decoded}
+use Rattle.hamming.specs.Code.{decoded}
 use Rattle.bank.specs.Units.{used}
 use Rattle.bank.proofs.UnitLaws.{found-used, past-used}
 use Rattle.bank.proofs.coded.CodedBankBank.read.Needs as need

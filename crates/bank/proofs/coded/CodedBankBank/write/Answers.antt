@@ -3,7 +3,7 @@ use mathlib.Core.Path.{_≡_, ap, _∙_}
 use mathlib.Core.List.{List, map}
 use Prim.Native.Nat.{ℕ}
 use lib.ListN.{set}
-use Rattle.bank.specs.Hamming.{codeWord, decoded}
+use Rattle.hamming.specs.Code.{codeWord, decoded}
 use Rattle.bank.specs.Units.{used, unused}
 use Rattle.bank.proofs.CodedRuns.{decoded-set}
 use Rattle.bank.proofs.UnitLaws.{put-used, put-unused}
@@ -18,5 +18,6 @@ returns c =
     record {
       means = ap (map decoded) coded ∙ decoded-set (used m) a (c .args .byte) (search needs);
       coded = coded;
+      lent = search needs;
       rest = ap unused (c .put .ensures) ∙ put-unused m a (c .encode .result);
     }

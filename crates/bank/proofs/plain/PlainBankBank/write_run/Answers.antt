@@ -15,5 +15,6 @@ returns c =
     let same : c .copy-from-slice .last .self ≡ take k (c .args .source .now) = search needs in
     record {
       means = copied-in (c .args .self .now .memory .now) (c .args .address) size f (c .count .ensures) (c .clip-from .ensures .from) (c .args .source .now) k _ inside (omega arith) (c .copy-from-slice .last .self) same;
+      lent = search needs;
       rest = copied-beside (c .args .self .now .memory .now) (c .args .address) size f (c .count .ensures) (c .clip-from .ensures .from) (c .args .source .now) k _ inside (omega arith) (c .copy-from-slice .last .self) same;
     }

@@ -11,8 +11,8 @@ use lib.ListN.{length, getD}
 use Rattle.std.specs.Iters.{counting}
 use Rattle.std.proofs.shelf.Tests.{cond-true, eqb-true, ltb-true}
 use Rattle.std.proofs.shelf.Ways.{tells}
-use Rattle.bank.specs.Hamming.{every, codes, codeWord, decoded, syndrome, dataBits, turned, gathered, dataPositions, even}
-use Rattle.bank.proofs.Computed.{at-each, below}
+use Rattle.hamming.specs.Code.{every, codes, codeWord, decoded, syndrome, dataBits, turned, gathered, dataPositions, even}
+use Rattle.hamming.proofs.Computed.{at-each, below}
 
 ends : (p q r s t u : Bool) → (p && q && r && s && t && u) ≡ true → (p ≡ true) × (u ≡ true)
 ends p q r s t u e = grind arith
@@ -54,16 +54,16 @@ survives : ℕ → ℕ → Bool
 survives b k = eqb (decoded (turned (codeWord b) (k + 1))) b
 
 survives-each : ℕ → Bool
-survives-each b = every (λ _ k. survives b k) 0 (counting 0 12)
+survives-each b = every (λ _ k. survives b k) 0 (counting 0 16)
 
 all-survive : every (λ _ b. survives-each b) 0 (counting 0 256) ≡ true
 unfolding survives-each survives codeWord syndrome dataBits
 all-survive = refl
 
-pub upset-back : (b k : ℕ) → b < 256 → 1 ≤ k → k ≤ 12 → decoded (turned (codeWord b) k) ≡ b
+pub upset-back : (b k : ℕ) → b < 256 → 1 ≤ k → k ≤ 16 → decoded (turned (codeWord b) k) ≡ b
 unfolding survives-each survives
 upset-back b k h l u =
     let each : survives-each b ≡ true = below survives-each 256 all-survive b h in
-    let one : survives b (k - 1) ≡ true = below (survives b) 12 each (k - 1) (omega arith) in
+    let one : survives b (k - 1) ≡ true = below (survives b) 16 each (k - 1) (omega arith) in
     let same : k - 1 + 1 ≡ k = omega arith in
     eqb-true (decoded (turned (codeWord b) k)) b (subst (λ (m : ℕ). eqb (decoded (turned (codeWord b) m)) b ≡ true) same one)

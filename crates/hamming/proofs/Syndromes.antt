@@ -9,7 +9,7 @@ use lib.Bits.{bitXor, xor-assoc, xor-zero-l, xor-zero-r}
 use lib.ListN.{length, getD, drop}
 use Rattle.std.proofs.shelf.Counted.{getD-counting}
 use Rattle.std.proofs.shelf.Lists.{drop-more}
-use Rattle.bank.specs.Hamming.{bitAt, xorOfOnes, positions, syndrome}
+use Rattle.hamming.specs.Code.{bitAt, xorOfOnes, positions, syndrome}
 
 abbrev pub Left : ℕ → ℕ → ℕ → Type 0
 Left w s k = bitXor s (xorOfOnes w (drop (k - 1) positions)) ≡ syndrome w

@@ -3,10 +3,10 @@ use mathlib.Core.Bool.{true}
 use mathlib.Core.Path.{_≡_}
 use Prim.Native.Nat.{ℕ, _<_}
 use lib.ListN.{getD}
-use Rattle.bank.specs.Hamming.{codes, codeWord}
-use Rattle.bank.proofs.Computed.{at-each}
-use Rattle.bank.proofs.Corrects.{only-word, word-back, upset-back}
-use Rattle.bank.proofs.hamming.encode.Needs as need
+use Rattle.hamming.specs.Code.{codes, codeWord}
+use Rattle.hamming.proofs.Computed.{at-each}
+use Rattle.hamming.proofs.Corrects.{only-word, word-back, upset-back}
+use Rattle.hamming.proofs.encode.Needs as need
 
 pub returns : need.returns
 returns c =

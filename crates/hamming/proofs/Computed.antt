@@ -9,7 +9,7 @@ use lib.ListN.{length, getD}
 use Rattle.std.specs.Iters.{counting}
 use Rattle.std.proofs.shelf.Counted.{getD-counting, length-counting}
 use Rattle.std.proofs.shelf.Tests.{and-parts}
-use Rattle.bank.specs.Hamming.{every}
+use Rattle.hamming.specs.Code.{every}
 
 from : (f : ℕ → ℕ → Bool) (xs : List ℕ) (i : ℕ) → every f i xs ≡ true → (k : ℕ) → k < length xs → f (i + k) (getD xs k 0) ≡ true
 from f [] i t k h = absurd (not-suc-le-zero h)

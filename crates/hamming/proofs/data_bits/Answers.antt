@@ -1,6 +1,6 @@
 use native.Mathlib.Omega.{arith}
-use Rattle.bank.specs.Hamming.{dataBits}
-use Rattle.bank.proofs.hamming.data_bits.Needs as need
+use Rattle.hamming.specs.Code.{dataBits}
+use Rattle.hamming.proofs.data_bits.Needs as need
 
 pub returns : need.returns
 unfolding dataBits

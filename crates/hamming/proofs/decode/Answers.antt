@@ -1,8 +1,8 @@
 use native.Mathlib.Omega.{arith}
 use mathlib.Core.Path.{_≡_, sym, ap, _∙_}
 use Prim.Native.Nat.{ℕ, _%_}
-use Rattle.bank.specs.Hamming.{decoded, dataBits, corrected}
-use Rattle.bank.proofs.hamming.decode.Needs as need
+use Rattle.hamming.specs.Code.{decoded, dataBits, corrected}
+use Rattle.hamming.proofs.decode.Needs as need
 
 pub returns-then-encode-low : need.returns-then-encode-low
 returns-then-encode-low c =

@@ -1,8 +1,8 @@
 use Prim.Native.Nat.{ℕ}
 use mathlib.Core.Path.{_≡_}
-use Rattle.bank.specs.Hamming.{syndrome}
-use Rattle.bank.proofs.Syndromes.{Left}
-use Rattle.bank.proofs.hamming.syndrome_of.Given as given
+use Rattle.hamming.specs.Code.{syndrome}
+use Rattle.hamming.proofs.Syndromes.{Left}
+use Rattle.hamming.proofs.syndrome_of.Given as given
 
 -- what is summed so far and the positions still to come make the whole, which the sum is after the last position
 abbrev pub Inv-loop-k : given.InvT-loop-k

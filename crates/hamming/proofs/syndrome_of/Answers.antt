@@ -1,10 +1,10 @@
 use native.Mathlib.Omega.{arith}
 use Prim.Native.Nat.{ℕ, _+_}
 use mathlib.Core.Path.{_≡_}
-use Rattle.bank.specs.Hamming.{syndrome}
-use Rattle.bank.proofs.Syndromes.{Left, left-none, left-all, left-one, left-zero}
-use Rattle.bank.proofs.hamming.syndrome_of.Needs as need
-use Rattle.bank.proofs.hamming.syndrome_of.Needs.{then-word-k-eq1, else-word-k-eq1}
+use Rattle.hamming.specs.Code.{syndrome}
+use Rattle.hamming.proofs.Syndromes.{Left, left-none, left-all, left-one, left-zero}
+use Rattle.hamming.proofs.syndrome_of.Needs as need
+use Rattle.hamming.proofs.syndrome_of.Needs.{then-word-k-eq1, else-word-k-eq1}
 
 pub loop-k-holds : need.loop-k-holds
 loop-k-holds c = (left-none (c .args .word), λ e. absurd (omega arith))
