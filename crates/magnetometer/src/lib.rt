@@ -5,6 +5,8 @@ ghost use Rattle.magnetometer.specs.Upsets.{upset};
 ghost use Rattle.bank.specs.Runs.{readRun, writeRun};
 ghost use Rattle.bank.specs.Units.{used};
 ghost use Rattle.hamming.specs.Code.{codeWord, decoded};
+ghost use mir.Syntax.{w16};
+ghost use mir.Val.{toZ};
 ghost use lib.ListN.{length};
 ghost use mathlib.Core.List.{map};
 ghost use lib.IntN.{natAbs};
@@ -42,9 +44,9 @@ impl Record {
     {
         let [a, b, c, d, e, f] = bytes;
         Record {
-            x: i16::from_le_bytes([a, b]),
-            y: i16::from_le_bytes([c, d]),
-            z: i16::from_le_bytes([e, f]),
+            x: reading(a, b),
+            y: reading(c, d),
+            z: reading(e, f),
         }
     }
 
@@ -107,6 +109,12 @@ fn load_plain(memory: &mut [u8], bytes: &mut [u8])
 {
     let bank = PlainBank::new(memory);
     bank.read_run(0, bytes);
+}
+
+fn reading(low: u8, high: u8) -> i16
+    ensures { λ r. ⌜ r ≡ toZ w16 (low + high * 256) ⌝ }
+{
+    i16::from_le_bytes([low, high])
 }
 
 fn square(n: i16) -> u32

@@ -12,7 +12,7 @@ returns c =
     let l : List ℕ = c .args .bytes in
     let long : length l ≡ 6 = search needs in
     let small : (i : ℕ) → getD l i 0 < 256 = λ i. search needs in
-    let x = joined (getD l 0 0) (getD l 1 0) (c .from-le-bytes .result) (small 0) (small 1) (c .from-le-bytes .ensures) in
-    let y = joined (getD l 2 0) (getD l 3 0) (c .from-le-bytes-2 .result) (small 2) (small 3) (c .from-le-bytes-2 .ensures) in
-    let z = joined (getD l 4 0) (getD l 5 0) (c .from-le-bytes-3 .result) (small 4) (small 5) (c .from-le-bytes-3 .ensures) in
+    let x = joined (getD l 0 0) (getD l 1 0) (c .reading .result) (small 0) (small 1) (c .reading .ensures) in
+    let y = joined (getD l 2 0) (getD l 3 0) (c .reading-2 .result) (small 2) (small 3) (c .reading-2 .ensures) in
+    let z = joined (getD l 4 0) (getD l 5 0) (c .reading-3 .result) (small 4) (small 5) (c .reading-3 .ensures) in
     rw (x .0, x .1, y .0, y .1, z .0, z .1) (sym (six l long))
