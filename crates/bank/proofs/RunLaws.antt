@@ -9,7 +9,7 @@ use native.Mathlib.Numerals.{add-one}
 use native.Mathlib.Omega.{arith}
 use borrow.Rule.Slice.PartMut.{putMid}
 use lib.ListN.{length, getD, set, take, drop, replicate}
-use Rattle.std.proofs.shelf.Lists.{length-set, getD-set-same, getD-set-other, set-past, getD-past, same-lists, getD-default, take-more, take-append-drop, drop-all, append-nil, length-take-le, length-drop, length-append, length-replicate, append-assoc, drop-drop, drop-set-lt, take-more-set, getD-append-left, getD-append-right, getD-replicate, getD-take}
+use Rattle.std.proofs.shelf.Lists.{length-set, getD-set-same, getD-set-other, set-past, getD-past, same-lists, getD-default, take-more, take-append-drop, drop-all, append-nil, length-take-le, length-drop, length-append, length-replicate, append-assoc, drop-drop, drop-set-lt, take-more-set, getD-append-left, getD-append-right, getD-replicate, getD-take, replicate-more, take-replicate}
 use Rattle.std.proofs.shelf.Tests.{cases-lt}
 use Rattle.bank.specs.Runs.{readRun, writeRun}
 
@@ -165,3 +165,14 @@ writeRun-whole l bs e =
 
 pub readRun-whole : (l : List ℕ) → readRun l 0 (length l) ≡ l
 readRun-whole l = sym (is-readRun l 0 l (λ k h. rw zero-add))
+
+-- one zero more
+pub zeros-more : (l : List ℕ) (a i : ℕ) → writeRun l a (replicate (i + 1) 0) ≡ set (writeRun l a (replicate i 0)) (a + i) 0
+zeros-more l a i =
+    ap (writeRun l a) (sym (replicate-more i 0)) ∙ writeRun-append l a (replicate i 0) (0 ∷ []) ∙ rw (length-replicate {A = ℕ} i 0) (writeRun-one (writeRun l a (replicate i 0)) (a + i) 0)
+
+-- of a run of zeros only what lies inside is written
+pub zeros-inside : (l : List ℕ) (a k n : ℕ) → k ≤ n → (k < n → length l ≤ a + k) → writeRun l a (replicate k 0) ≡ writeRun l a (replicate n 0)
+zeros-inside l a k n h past =
+    let long : length {A = ℕ} (replicate n 0) ≡ n = length-replicate n 0 in
+    ap (writeRun l a) (sym (take-replicate k n 0 h)) ∙ writeRun-inside l a (replicate n 0) k (omega (arith, long)) (λ less. past (omega (arith, long)))

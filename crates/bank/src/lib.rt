@@ -1,7 +1,7 @@
 // Memory banks. A bank means a list of bytes, whose length is its size and never changes.
 ghost use Prim.Native.Nat.{ℕ};
 ghost use Rattle.bank.specs.Runs.{readRun, writeRun};
-ghost use lib.ListN.{getD, length, set};
+ghost use lib.ListN.{getD, length, replicate, set};
 ghost use mathlib.Core.List.{List};
 ghost use mathlib.Core.Path.{_≡_};
 
@@ -42,6 +42,16 @@ pub trait Bank {
         let (_, inside) = units::clip(self.size() as usize, address, source.len());
         for i in 0..inside {
             self.write(address + i as u32, source[i]);
+        }
+    }
+
+    // Writes zeros from an address on, as far as they lie inside the bank.
+    fn clear_run(&mut self, address: u32, count: u32)
+        ensures { λ _. ⌜ bytes (now (self .exit)) ≡ writeRun (bytes (now (self .entry))) address (replicate count 0) ⌝ }
+    {
+        let (_, inside) = units::clip(self.size() as usize, address, count as usize);
+        for i in 0..inside {
+            self.write(address + i as u32, 0);
         }
     }
 }

@@ -2,7 +2,7 @@
 ghost use Rattle.bank.specs.Runs.{writeRun};
 ghost use Rattle.bank.specs.Units.{unused, used};
 ghost use denote.Ref.{now, name};
-ghost use lib.ListN.{set};
+ghost use lib.ListN.{replicate, set};
 ghost use mathlib.Core.Path.{_≡_};
 use crate::Bank;
 use crate::units;
@@ -58,5 +58,14 @@ pub impl Bank for PlainBank<'_> as PlainBankBank {
         let (from, inside) = units::clip(units::count(self.memory.len()), address, source.len());
         self.memory[from..from + inside]
             .copy_from_slice(&source[0..inside]);
+    }
+
+    fn clear_run(&mut self, address: u32, count: u32)
+        ensures means { λ _. ⌜ used (now (now (self .exit) .memory)) ≡ writeRun (used (now (now (self .entry) .memory))) address (replicate count 0) ⌝ }
+        ensures lent { λ _. ⌜ name (now (self .exit) .memory) ≡ name (now (self .entry) .memory) ⌝ }
+        ensures rest { λ _. ⌜ unused (now (now (self .exit) .memory)) ≡ unused (now (now (self .entry) .memory)) ⌝ }
+    {
+        let (from, inside) = units::clip(units::count(self.memory.len()), address, count as usize);
+        self.memory[from..from + inside].fill(0);
     }
 }

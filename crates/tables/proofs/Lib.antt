@@ -1,0 +1,3 @@
+pub mod Space
+pub mod States
+pub mod Takes
