@@ -1,0 +1,5 @@
+pub mod Calls
+pub mod Lines
+pub mod Replies
+pub mod Text
+pub mod Words
