@@ -8,7 +8,6 @@ use lib.ListN.{length, replicate}
 use Rattle.std.specs.Written.{decimal}
 use Rattle.std.specs.declared.option.Option.{Option}
 use Rattle.std.specs.declared.option.Option.the-variants.{Some, None}
-use Rattle.rules.specs.declared.fault.Fault.{Fault}
 use Rattle.rules.specs.declared.fault.Layer.{Layer}
 use Rattle.rules.specs.Faults.{numberOf, layerOf, letterOf}
 use Rattle.rules.specs.State.{State, empty}

@@ -2,12 +2,11 @@ use borrow.Author.Needs.{needs}
 use native.Mathlib.Omega.{arith}
 use mathlib.Core.List.{_++_}
 use mathlib.Core.Path.{_≡_, sym, _∙_}
-use lib.ListN.{length}
 use Rattle.std.proofs.shelf.Lists.{append-nil}
 use Rattle.std.specs.Of.Vec.{vec-items}
 use Rattle.tables.specs.Live.{stateOf}
 use Rattle.script.specs.Text.{before, behind}
-use Rattle.script.specs.Replies.{answer, linesOf, repliesOf, restOf, textOf}
+use Rattle.script.specs.Replies.{restOf, textOf}
 use Rattle.script.proofs.Turns.{rest-short, turn, no-turn}
 use Rattle.script.proofs.answer.answers.Needs as need
 

@@ -1,6 +1,6 @@
 use borrow.Author.Needs.{needs}
 use native.Mathlib.Omega.{arith}
-use mathlib.Core.Path.{_≡_, sym}
+use mathlib.Core.Path.{sym}
 use Rattle.script.proofs.Sames.{same-yes, same-length, same-not}
 use Rattle.script.proofs.words.same.Needs as need
 
