@@ -1,4 +1,6 @@
 // Memory banks. A bank means a list of bytes, whose length is its size and never changes.
+#![tactic(auto)]
+
 ghost use Rattle.std.specs.Prelude.{◌≡◌, ℕ, List, length, replicate, slice_index, slice_set};
 ghost use Rattle.bank.specs.Runs.{read_run, write_run};
 

@@ -1,4 +1,6 @@
 // Tests of the banks and of the Hamming code.
+#![tactic(auto)]
+
 #[cfg(test)]
 mod tests {
     use bank::Bank;

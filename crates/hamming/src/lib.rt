@@ -1,5 +1,7 @@
 // The Hamming code of the coded bank: a byte in positions 1 to 12 of a 16-bit word, where position k is bit k - 1.
 // Any one of those twelve bits may turn, and the byte is still read.
+#![tactic(auto)]
+
 ghost use Rattle.std.specs.Prelude.{◌≡◌, ℕ, ◌-◌, ◌%◌, ◌^◌, ◌≤◌, true};
 ghost use Rattle.hamming.specs.Code.{code_word, codes, corrected, data_bits, decoded, every, syndrome, turned};
 

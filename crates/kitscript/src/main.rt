@@ -1,4 +1,6 @@
 // Runs the script on standard input and prints its answers.
+#![tactic(auto)]
+
 use script::whole::answer_script;
 use std::io;
 use std::io::{Read, Write};

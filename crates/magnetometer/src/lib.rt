@@ -1,4 +1,6 @@
 // A magnetometer record in a memory bank, and what one turned bit of that memory does to it.
+#![tactic(auto)]
+
 ghost use Rattle.std.specs.Prelude.{◌≡◌, ◌+◌, ◌*◌, ◌<◌, ◌≤◌, map, length, unsigned_abs};
 ghost use Rattle.magnetometer.specs.Bytes.{record_bytes};
 ghost use Rattle.magnetometer.specs.Upsets.{upset};

@@ -1,1 +1,2 @@
 pub mod Binds
+pub mod GrantedWord

@@ -6,9 +6,8 @@ use Rattle.rules.specs.declared.entry.Entry.TheVariants.{Object}
 use Rattle.rules.specs.declared.entry.Storage.{Storage}
 use Rattle.rules.specs.declared.fault.Fault.{Fault}
 use Rattle.rules.specs.declared.shown.Descriptor.{Descriptor}
-use Rattle.rules.specs.declared.shown.Place.{Place}
 use Rattle.rules.specs.declared.shown.Shown.{Shown}
-use Rattle.rules.specs.State.{State, Table, table, stack, level, shown, slot_at, block_start, takes, word_bytes, encode}
+use Rattle.rules.specs.State.{State, Table, Place, table, stack, level, shown, slot_at, block_start, takes, word_bytes, encode}
 
 -- the bytes from an address on replaced
 unfoldable pub overwrite : ℕ → List ℕ → State → State

@@ -4,7 +4,7 @@ use Rattle.rules.specs.declared.entry.Entry.{Entry}
 use Rattle.rules.specs.declared.entry.Entry.TheVariants.{Object, Control, Refined}
 use Rattle.rules.specs.declared.fault.Fault.{Fault}
 use Rattle.rules.specs.declared.fault.Reason.TheVariants.{NoTask, WrongType, OutOfRange}
-use Rattle.rules.specs.State.{State, table, level, entry, shown, byte_at, slot_at, kind_of, encode, takes}
+use Rattle.rules.specs.State.{State, Place, table, level, entry, shown, byte_at, slot_at, kind_of, encode, takes}
 use Rattle.rules.specs.Tests.{◌≫=◌, check, some, refusal, loading, in_range, fits, room}
 use Rattle.rules.specs.Effects.{Effect, Planned, keep, put_word, write_bytes, add_entry, start_task, seal, new_object, next_index}
 

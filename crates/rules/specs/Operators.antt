@@ -5,11 +5,9 @@ use Rattle.rules.specs.declared.entry.Entry.{Entry}
 use Rattle.rules.specs.declared.entry.Entry.TheVariants.{Object, Control, Refined}
 use Rattle.rules.specs.declared.fault.Fault.{Fault}
 use Rattle.rules.specs.declared.fault.Reason.TheVariants.{NoLevel, WrongType, NotDeletable, StoringRule}
-use Rattle.rules.specs.declared.right.Right.TheVariants.{Read, Write, Type1, Type2}
 use Rattle.rules.specs.declared.shown.Descriptor.{Descriptor}
-use Rattle.rules.specs.declared.shown.Place.{Place}
 use Rattle.rules.specs.declared.shown.Shown.{Shown}
-use Rattle.rules.specs.State.{State, table, stack, level, entry, named, shown, byte_at, held, encode, takes}
+use Rattle.rules.specs.State.{State, Place, table, stack, level, entry, named, shown, byte_at, held, encode, read, write, type1, type2}
 use Rattle.rules.specs.Tests.{◌≫=◌, check, some, refusal, refusal_at, operator, source_or_null, source, source_with, control, destination, overwritable, in_range, fits, storable, room, level_by, kind_by}
 use Rattle.rules.specs.Effects.{Effect, Planned, keep, put_word, write_bytes, add_named, open_context, close_context, new_object, next_index}
 
@@ -49,24 +47,19 @@ restrict_plan q src dst mask s =
 unfoldable pub amplify_plan : ℕ → ℕ → ℕ → ℕ → State → Result (Planned (Unit {0})) Fault
 amplify_plan q ctl src dst s =
     operator s q ≫= λ c.
-    control Type2 s q c 1 ctl ≫= λ k.
+    control type2 s q c 1 ctl ≫= λ k.
     source s q c 2 src ≫= λ d.
     check (kind_by (entry s d.table d.index) == k.kind) (refusal_at WrongType q 2 src) ≫= λ _.
     destination s q c 3 dst ≫= λ l.
     stores s q (with_rights (bit_or d.rights k.rights) d) l
-
--- the adding of an entry to the task's own table, named in a slot
-unfoldable pub naming : State → ℕ → Entry → Place → ℕ → Result (Planned (Unit {0})) Fault
-naming s q e l rights =
-    room s q (takes e) q ≫= λ _.
-    Ok (record { answer = tt; effect = add_named q e l rights })
 
 -- the making of a storage object in the task's own table at its level, named with all rights in a slot
 unfoldable pub makes : State → ℕ → Place → ℕ → ℕ → ℕ → Result (Planned (Unit {0})) Fault
 makes s q l n k kind =
     in_range (nat_le n 2048 && nat_le k 512) q ≫= λ _.
     storable (level s q) l q ≫= λ _.
-    naming s q (new_object s q n k kind (level s q)) l 63
+    room s q (4 * k + n) q ≫= λ _.
+    Ok (record { answer = tt; effect = add_named q (new_object s q n k kind (level s q)) l 63 })
 
 unfoldable pub create_plan : ℕ → ℕ → ℕ → ℕ → State → Result (Planned (Unit {0})) Fault
 create_plan q dst n k s =
@@ -77,7 +70,7 @@ create_plan q dst n k s =
 unfoldable pub typed_plan : ℕ → ℕ → ℕ → ℕ → ℕ → State → Result (Planned (Unit {0})) Fault
 typed_plan q ctl dst n k s =
     operator s q ≫= λ c.
-    control Type1 s q c 1 ctl ≫= λ t.
+    control type1 s q c 1 ctl ≫= λ t.
     destination s q c 2 dst ≫= λ l.
     makes s q l n k t.kind
 
@@ -102,51 +95,51 @@ refine_plan q src dst byte bytes slot slots s =
     destination s q c 2 dst ≫= λ l.
     in_range (fits byte bytes (shown s d.table d.index).bytes && fits slot slots (shown s d.table d.index).slots) q ≫= λ _.
     storable (level s q) l q ≫= λ _.
-    naming s q (refined (shown s d.table d.index) byte bytes slot slots (level s q)) l d.rights
+    room s q 0 q ≫= λ _.
+    Ok (record { answer = tt; effect = add_named q (refined (shown s d.table d.index) byte bytes slot slots (level s q)) l d.rights })
 
 -- read: the answer is what the buffer of n bytes holds afterwards
 unfoldable pub read_plan : ℕ → ℕ → ℕ → ℕ → State → Result (Planned (List ℕ)) Fault
 read_plan q src offset n s =
     operator s q ≫= λ c.
-    source_with Read s q c 1 src ≫= λ d.
+    source_with read s q c 1 src ≫= λ d.
     in_range (fits offset n (shown s d.table d.index).bytes) q ≫= λ _.
     Ok (record { answer = read_run s.bytes (byte_at (shown s d.table d.index) offset) n; effect = keep })
-
--- the whole buffer is filled; after a fault it is as it was
-abbrev pub delivered : List ℕ → Result (List ℕ) Fault → Result (Unit {0}) Fault × List ℕ
-delivered before (Ok bytes) = (Ok tt, bytes)
-delivered before (Err f) = (Err f, before)
-
-abbrev pub received : List ℕ → Result (List ℕ) Fault × State → (Result (Unit {0}) Fault × List ℕ) × State
-received before x = (delivered before x.0, x.1)
 
 unfoldable pub write_plan : ℕ → ℕ → ℕ → List ℕ → State → Result (Planned (Unit {0})) Fault
 write_plan q src offset bs s =
     operator s q ≫= λ c.
-    source_with Write s q c 1 src ≫= λ d.
+    source_with write s q c 1 src ≫= λ d.
     in_range (fits offset (length bs) (shown s d.table d.index).bytes) q ≫= λ _.
     Ok (record { answer = tt; effect = write_bytes (byte_at (shown s d.table d.index) offset) bs })
 
--- see: table, index and rights, or absent
-abbrev pub told : Option Descriptor → Option (ℕ × ℕ × ℕ)
-told (Some d) = Some (d.table, d.index, d.rights)
-told None = None
-
-unfoldable pub see_plan : ℕ → ℕ → State → Result (Planned (Option (ℕ × ℕ × ℕ))) Fault
+-- see: the descriptor, or absent
+unfoldable pub see_plan : ℕ → ℕ → State → Result (Planned (Option Descriptor)) Fault
 see_plan q src s =
     operator s q ≫= λ c.
     source_or_null s q c 1 src ≫= λ o.
-    Ok (record { answer = told o; effect = keep })
+    Ok (record { answer = o; effect = keep })
 
--- look: type, data length, slot count and level
-abbrev pub looked : Option Entry → Shown → ℕ × ℕ × ℕ × ℕ
-looked e v = (kind_by e, v.bytes, v.slots, level_by e)
+-- what look tells of an entry
+pub record Looked : Type 0 where
+  pub kind : ℕ
+  pub bytes : ℕ
+  pub slots : ℕ
+  pub level : ℕ
 
-unfoldable pub look_plan : ℕ → ℕ → State → Result (Planned (ℕ × ℕ × ℕ × ℕ)) Fault
+unfoldable pub look_plan : ℕ → ℕ → State → Result (Planned Looked) Fault
 look_plan q src s =
     operator s q ≫= λ c.
     source s q c 1 src ≫= λ d.
-    Ok (record { answer = looked (entry s d.table d.index) (shown s d.table d.index); effect = keep })
+    Ok (record {
+      answer = record {
+        kind = kind_by (entry s d.table d.index);
+        bytes = (shown s d.table d.index).bytes;
+        slots = (shown s d.table d.index).slots;
+        level = level_by (entry s d.table d.index);
+      };
+      effect = keep;
+    })
 
 -- the word of a descriptor that may be null
 abbrev pub word_of : Option Descriptor → ℕ
@@ -157,12 +150,6 @@ abbrev pub level_named : State → Option Descriptor → ℕ
 level_named s (Some d) = level_by (entry s d.table d.index)
 level_named s None = 0
 
--- the opening of a context with a word in its slot 0
-unfoldable pub opening : State → ℕ → ℕ → ℕ → Result (Planned (Unit {0})) Fault
-opening s q k w =
-    room s q (4 * k) q ≫= λ _.
-    Ok (record { answer = tt; effect = open_context q k w })
-
 -- call: a context at the next level, with the argument in its slot 0
 unfoldable pub call_plan : ℕ → ℕ → ℕ → State → Result (Planned (Unit {0})) Fault
 call_plan q arg k s =
@@ -171,7 +158,8 @@ call_plan q arg k s =
     source_or_null s q c 1 arg ≫= λ o.
     in_range (nat_le 4 k && nat_le k 64) q ≫= λ _.
     check (nat_le (level_named s o) (level s q + 1)) (refusal StoringRule q) ≫= λ _.
-    opening s q k (word_of o)
+    room s q (4 * k) q ≫= λ _.
+    Ok (record { answer = tt; effect = open_context q k (word_of o) })
 
 -- the context that the current one was called from
 abbrev pub calling : List ℕ → Option ℕ

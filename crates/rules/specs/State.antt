@@ -6,10 +6,7 @@ use Rattle.rules.specs.declared.entry.Entry.TheVariants.{Object, Control, Refine
 use Rattle.rules.specs.declared.entry.Storage.{Storage}
 use Rattle.rules.specs.declared.entry.Refinement.{Refinement}
 use Rattle.rules.specs.declared.entry.TypeControl.{TypeControl}
-use Rattle.rules.specs.declared.right.Right.{Right}
-use Rattle.rules.specs.declared.right.Right.TheVariants.{Read, Write, Type1, Type2, Type3, Delete}
 use Rattle.rules.specs.declared.shown.Descriptor.{Descriptor}
-use Rattle.rules.specs.declared.shown.Place.{Place}
 use Rattle.rules.specs.declared.shown.Shown.{Shown}
 
 -- a table: its live entries in order of making, and how many bytes of its block are taken
@@ -92,18 +89,25 @@ is_there None = false
 unfoldable pub named : State → ℕ → Option Descriptor
 named s w = cond (valid w && is_there (entry s (decode w).table (decode w).index)) (Some (decode w)) None
 
--- the number of each right
-abbrev pub weight : Right → ℕ
-weight Read = 1
-weight Write = 2
-weight Type1 = 4
-weight Type2 = 8
-weight Type3 = 16
-weight Delete = 32
+-- the rights, each by the number that stands for it
+abbrev pub read : ℕ
+read = 1
 
--- whether a right is among the rights, which are written as one number
-unfoldable pub has : Right → ℕ → Bool
-has r rights = rights / weight r % 2 == 1
+abbrev pub write : ℕ
+write = 2
+
+abbrev pub type1 : ℕ
+type1 = 4
+
+abbrev pub type2 : ℕ
+type2 = 8
+
+abbrev pub delete : ℕ
+delete = 32
+
+-- whether a right, by its number, is among the rights
+unfoldable pub has : ℕ → ℕ → Bool
+has right rights = rights / right % 2 == 1
 
 abbrev pub nothing : Shown
 nothing = record { owner = 0; object = 0; base = 0; byte = 0; bytes = 0; slot = 0; slots = 0; level = 0 }
@@ -135,6 +139,11 @@ byte_at v j = v.base + (v.byte + j)
 
 unfoldable pub slot_at : Shown → ℕ → ℕ
 slot_at v i = v.base - 4 * (v.slot + i + 1)
+
+-- a slot: what shows it, and its number there
+pub record Place : Type 0 where
+  pub by : Shown
+  pub at : ℕ
 
 -- the word that a slot holds
 unfoldable pub held : State → Place → ℕ

@@ -6,12 +6,9 @@ use Rattle.rules.specs.declared.entry.TypeControl.{TypeControl}
 use Rattle.rules.specs.declared.fault.Fault.{Fault}
 use Rattle.rules.specs.declared.fault.Reason.{Reason}
 use Rattle.rules.specs.declared.fault.Reason.TheVariants.{SmallBank, WrongPhase, NoTask, NoLevel, NullEnvironment, EnvironmentRight, NoSlot, NullSource, MissingRight, WrongType, NotDeletable, OutOfRange, StoringRule, NoRoom}
-use Rattle.rules.specs.declared.right.Right.{Right}
-use Rattle.rules.specs.declared.right.Right.TheVariants.{Read, Write, Delete}
 use Rattle.rules.specs.declared.shown.Descriptor.{Descriptor}
-use Rattle.rules.specs.declared.shown.Place.{Place}
 use Rattle.rules.specs.declared.shown.Shown.{Shown}
-use Rattle.rules.specs.State.{State, Table, table, stack, level, entry, named, shown, slot_at, held, word_at, has, kind_of, level_of, takes}
+use Rattle.rules.specs.State.{State, Table, Place, table, stack, level, entry, named, shown, slot_at, held, word_at, has, kind_of, level_of, takes, read, write, delete}
 
 infixr 20 ◌≫=◌
 -- one test after the other: the first that fails gives the fault
@@ -56,7 +53,7 @@ operator s q =
     some (current (stack s q)) (refusal NoTask q)
 
 -- 5, 6: what the environment of a selector shows, given its current context c and the right that is needed there
-unfoldable pub environment : Right → State → ℕ → ℕ → ℕ → ℕ → Result Shown Fault
+unfoldable pub environment : ℕ → State → ℕ → ℕ → ℕ → ℕ → Result Shown Fault
 environment right s q c p sel =
     choose (sel % 4 == 0)
     (Ok (shown s q c))
@@ -65,7 +62,7 @@ environment right s q c p sel =
     Ok (shown s d.table d.index))
 
 -- 7: the slot that a selector names
-unfoldable pub resolve : Right → State → ℕ → ℕ → ℕ → ℕ → Result Place Fault
+unfoldable pub resolve : ℕ → State → ℕ → ℕ → ℕ → ℕ → Result Place Fault
 resolve right s q c p sel =
     environment right s q c p sel ≫= λ v.
     check (nat_lt (sel / 4) v.slots) (refusal_at NoSlot q p sel) ≫= λ _.
@@ -74,7 +71,7 @@ resolve right s q c p sel =
 -- a source that may be null
 unfoldable pub source_or_null : State → ℕ → ℕ → ℕ → ℕ → Result (Option Descriptor) Fault
 source_or_null s q c p sel =
-    resolve Read s q c p sel ≫= λ l.
+    resolve read s q c p sel ≫= λ l.
     Ok (named s (held s l))
 
 -- 8: a source that may not
@@ -84,7 +81,7 @@ source s q c p sel =
     some o (refusal_at NullSource q p sel)
 
 -- 9: a source whose descriptor has a right
-unfoldable pub source_with : Right → State → ℕ → ℕ → ℕ → ℕ → Result Descriptor Fault
+unfoldable pub source_with : ℕ → State → ℕ → ℕ → ℕ → ℕ → Result Descriptor Fault
 source_with right s q c p sel =
     source s q c p sel ≫= λ d.
     check (has right d.rights) (refusal_at MissingRight q p sel) ≫= λ _.
@@ -97,19 +94,19 @@ control_by (Some (Refined r)) = None
 control_by None = None
 
 -- 10: a source that names a type control and has a right
-unfoldable pub control : Right → State → ℕ → ℕ → ℕ → ℕ → Result TypeControl Fault
+unfoldable pub control : ℕ → State → ℕ → ℕ → ℕ → ℕ → Result TypeControl Fault
 control right s q c p sel =
     source_with right s q c p sel ≫= λ d.
     some (control_by (entry s d.table d.index)) (refusal_at WrongType q p sel)
 
 -- 11: a slot may be overwritten if it is null or its descriptor has the delete right
 abbrev pub overwritable : Option Descriptor → Bool
-overwritable (Some d) = has Delete d.rights
+overwritable (Some d) = has delete d.rights
 overwritable None = true
 
 unfoldable pub destination : State → ℕ → ℕ → ℕ → ℕ → Result Place Fault
 destination s q c p sel =
-    resolve Write s q c p sel ≫= λ l.
+    resolve write s q c p sel ≫= λ l.
     check (overwritable (named s (held s l))) (refusal_at NotDeletable q p sel) ≫= λ _.
     Ok l
 

@@ -39,18 +39,18 @@ impl Shown {
     }
 
     // The part of a storage object that a refinement shows.
-    pub fn part(refinement: Refinement, beneath: Storage) -> Shown
-        ensures { result ≡ part refinement (Some (Entry.Object beneath)) }
+    pub fn part(refinement: Refinement, object: Storage) -> Shown
+        ensures { result ≡ part refinement (Some (Entry.Object object)) }
     {
         Shown {
             owner: refinement.table as u32,
             object: refinement.index as u32,
-            base: beneath.base,
+            base: object.base,
             byte: refinement.byte,
             bytes: refinement.bytes,
             slot: refinement.slot,
             slots: refinement.slots,
-            level: beneath.level,
+            level: object.level,
         }
     }
 

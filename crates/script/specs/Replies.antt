@@ -5,7 +5,7 @@ use Rattle.rules.specs.Faults.{number_of, layer_of, letter_of}
 use Rattle.rules.specs.State.{State, empty}
 use Rattle.script.specs.declared.line.Line.{Line}
 use Rattle.script.specs.declared.reply.Reply.{Reply}
-use Rattle.script.specs.declared.reply.Reply.TheVariants.{Bad, Done, Number, Absent, Seen, Looked, Refused}
+use Rattle.script.specs.declared.reply.Reply.TheVariants.{Bad, Done, Number, Refused}
 use Rattle.script.specs.Calls.{run_of}
 use Rattle.script.specs.Lines.{line_of}
 use Rattle.script.specs.Text.{before, behind}
@@ -19,9 +19,6 @@ abbrev pub text_of : Reply → List ℕ
 text_of Bad = 98 ∷ 97 ∷ 100 ∷ 10 ∷ []
 text_of Done = 111 ∷ 107 ∷ 10 ∷ []
 text_of (Number n) = codes "ok " ++ (decimal n ++ 10 ∷ [])
-text_of Absent = codes "ok absent" ++ 10 ∷ []
-text_of (Seen t i r) = codes "ok " ++ (decimal t ++ (32 ∷ [] ++ (decimal i ++ (32 ∷ [] ++ (decimal r ++ 10 ∷ [])))))
-text_of (Looked t n k v) = codes "ok " ++ (decimal t ++ (32 ∷ [] ++ (decimal n ++ (32 ∷ [] ++ (decimal k ++ (32 ∷ [] ++ (decimal v ++ 10 ∷ [])))))))
 text_of (Refused f) = codes "fault " ++ (decimal (number_of f.reason) ++ (32 ∷ [] ++ (letter_text (layer_of f.reason) ++ (32 ∷ [] ++ (decimal f.place ++ 10 ∷ [])))))
 
 -- a line that is no call is bad and calls nothing

@@ -1,7 +1,7 @@
 -- The words of calls. Assumes nothing.
 use Rattle.std.specs.Prelude.{ℕ, Bool, true, false, cond, ◌&&◌, List, [], ◌∷◌, Some, None, codes, Option, ◌==◌}
 use Rattle.script.specs.declared.word.Word.{Word}
-use Rattle.script.specs.declared.word.Word.TheVariants.{Place, Control, Task, Grant, Fill, Seal, Copy, Null, Restrict, Create, Typed, Refine, Read, Write, See, Look, Call, Return}
+use Rattle.script.specs.declared.word.Word.TheVariants.{Place, Control, Task, Grant, Fill, Seal}
 
 -- byte by byte the same, and as long
 unfoldable pub same : List ℕ → List ℕ → Bool
@@ -10,42 +10,11 @@ same [] (b ∷ bs) = false
 same (a ∷ xs) [] = false
 same (a ∷ xs) (b ∷ bs) = a == b && same xs bs
 
-infixr 20 ◌else◌
--- the first that there is
-abbrev pub ◌else◌ : {X : Type 0} → Option X → Option X → Option X
-Some x else o = Some x
-None else o = o
-
-abbrev pub reads : List ℕ → List ℕ → Word → Option Word
-reads t text w = cond (same t text) (Some w) None
-
-abbrev pub load_word : List ℕ → Option Word
-load_word t =
-    reads t (codes "place") Place else
-    reads t (codes "control") Control else
-    reads t (codes "task") Task else
-    reads t (codes "grant") Grant else
-    reads t (codes "fill") Fill else
-    reads t (codes "seal") Seal
-
--- operators with a destination, and the others
-abbrev pub destination_word : List ℕ → Option Word
-destination_word t =
-    reads t (codes "copy") Copy else
-    reads t (codes "null") Null else
-    reads t (codes "restrict") Restrict else
-    reads t (codes "create") Create else
-    reads t (codes "typed") Typed else
-    reads t (codes "refine") Refine
-
-abbrev pub other_word : List ℕ → Option Word
-other_word t =
-    reads t (codes "read") Read else
-    reads t (codes "write") Write else
-    reads t (codes "see") See else
-    reads t (codes "look") Look else
-    reads t (codes "call") Call else
-    reads t (codes "return") Return
-
 abbrev pub word_of : List ℕ → Option Word
-word_of t = load_word t else destination_word t else other_word t
+word_of t =
+    cond (same t (codes "place")) (Some Place)
+    (cond (same t (codes "control")) (Some Control)
+    (cond (same t (codes "task")) (Some Task)
+    (cond (same t (codes "grant")) (Some Grant)
+    (cond (same t (codes "fill")) (Some Fill)
+    (cond (same t (codes "seal")) (Some Seal) None)))))

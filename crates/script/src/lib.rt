@@ -1,4 +1,6 @@
 // Scripts of calls.
+#![tactic(auto)]
+
 pub mod answer;
 pub mod calls;
 pub mod field;

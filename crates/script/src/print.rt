@@ -25,18 +25,6 @@ pub fn reply_text(heap: Global, reply: Reply) -> Result<String, AllocError>
         Reply::Bad => String::from_str(heap, "bad\n"),
         Reply::Done => String::from_str(heap, "ok\n"),
         Reply::Number(n) => format!(in heap; "ok {n}\n"),
-        Reply::Absent => String::from_str(heap, "ok absent\n"),
-        Reply::Seen {
-            table,
-            index,
-            rights,
-        } => format!(in heap; "ok {table} {index} {rights}\n"),
-        Reply::Looked {
-            kind,
-            bytes,
-            slots,
-            level,
-        } => format!(in heap; "ok {kind} {bytes} {slots} {level}\n"),
         Reply::Refused(fault) => fault_text(heap, fault),
     }
 }

@@ -1,19 +1,19 @@
 -- What adding an entry to a table of a store comes to.
 -- Assumes nothing.
-use Rattle.std.proofs.Common.{◌≡◌, ℕ, ◌+◌, ◌*◌, ◌<◌, Bool, true, false, cond, List, replicate, Some, None, Ok, Result, sym, refl, ap, ◌∙◌, subst, arith}
+use Rattle.std.proofs.Common.{◌≡◌, ℕ, ◌+◌, ◌*◌, ◌<◌, Bool, true, false, cond, ltb, List, [], replicate, Some, None, Ok, Result, sym, refl, ap, ◌∙◌, subst, arith}
 use Rattle.std.proofs.lemmas.Bool.{lt-ltb}
 use Rattle.bank.specs.Runs.{write_run}
 use Rattle.bank.proofs.RunLaws.{write_run_none}
 use Rattle.rules.specs.declared.entry.Entry.{Entry}
-use Rattle.rules.specs.declared.entry.Entry.TheVariants.{Object}
+use Rattle.rules.specs.declared.entry.Entry.TheVariants.{Control, Object}
+use Rattle.rules.specs.declared.entry.TypeControl.{TypeControl}
 use Rattle.rules.specs.declared.fault.Fault.{Fault}
 use Rattle.rules.specs.State.{State, table, takes, block_start}
 use Rattle.rules.specs.Tests.{◌≫=◌, check, has_room, room}
 use Rattle.rules.specs.Effects.{add, apply, done, grown, new_object, next_index, overwrite, with_table}
 use Rattle.rules.specs.Loading.{adding, making}
 use Rattle.tables.specs.declared.directory.Directory.{Directory}
-use Rattle.tables.specs.Bounds.{bounded}
-use Rattle.tables.specs.Live.{can_add, has_space, state_of}
+use Rattle.tables.specs.Live.{can_add, state_of}
 
 -- where the bytes of the next entry of a table begin
 abbrev pub next_byte : State → ℕ → ℕ
@@ -35,23 +35,14 @@ chosen b i j e = grind arith
 unchosen : (b : Bool) (j : ℕ) → None ≡ cond b (Some j) None → b ≡ false
 unchosen b j e = grind arith
 
--- where there is room, the next bytes begin at the claim
-module _ (s : State) (t n : ℕ) (h : t < 9) where
-  spacious : has_space s t n ≡ has_room (table s t) n
-  unfolding has_space
-  spacious = rw (lt-ltb t 9 h)
+pub begin_is : (a t b : ℕ) → t < 9 → Some a ≡ cond (ltb t 9) (Some b) None → a ≡ b
+begin_is a t b h e = (chosen (ltb t 9) a b e).1
 
-  pub begins : (a : ℕ) → Some a ≡ cond (has_space s t n) (Some (next_byte s t)) None → a ≡ next_byte s t
-  begins a e = (chosen (has_space s t n) a (next_byte s t) e).1
-
-  pub too_full : None ≡ cond (has_space s t n) (Some (next_byte s t)) None → has_room (table s t) n ≡ false
-  too_full e = sym spacious ∙ unchosen (has_space s t n) (next_byte s t) e
-
-module _ (d d' : Directory) (t : ℕ) (e : Entry) (h : t < 9) (runs : bounded e ≡ true)
+module _ (d d' : Directory) (t : ℕ) (e : Entry) (h : t < 9)
     (after : (l : List ℕ) → state_of d' l ≡ cond (can_add (state_of d l) t e) (with_table t (grown (table (state_of d l) t) e) (state_of d l)) (state_of d l)) where
   can : (l : List ℕ) → can_add (state_of d l) t e ≡ has_room (table (state_of d l) t) (takes e)
   unfolding can_add
-  can l = rw (lt-ltb t 9 h, runs)
+  can l = rw (lt-ltb t 9 h)
 
   pub added : (l : List ℕ) (i : ℕ) → ((m : List ℕ) → Some i ≡ cond (can_add (state_of d m) t e) (Some (next_index (state_of d m) t)) None) → Added d d' l t i e
   unfolding add overwrite state_of table
@@ -79,10 +70,10 @@ made d d' l l' t n k kind lvl q i a b m e f h c x =
     subst (λ (o : ℕ). Added d d' l t i (Object (record { base = o; bytes = n; slots = k; kind = kind; level = lvl }))) (f ∙ ap (λ (z : ℕ). z + 4 * k) e) x in
     rw (c, h, e, y.has, y.index) (answered (next_index s t) y.after)
 
--- an entry made that takes no bytes
-pub taken : (d d' : Directory) (l : List ℕ) (t i q : ℕ) (e : Entry) → takes e ≡ 0 → Added d d' l t i e → ◌≡◌ {A = Result ℕ Fault × State} (Ok i, state_of d' l) (done (state_of d l) (adding (state_of d l) t e q))
+-- a type control made, which takes no bytes
+pub controlled : (d d' : Directory) (l : List ℕ) (t i q : ℕ) (c : TypeControl) → Added d d' l t i (Control c) → ◌≡◌ {A = Result ℕ Fault × State} (Ok i, state_of d' l) (done (state_of d l) (adding (state_of d l) t (Control c) q))
 unfolding adding room ◌≫=◌ check done apply state_of
-taken d d' l t i q e none x =
+controlled d d' l t i q c x =
     let s : State = state_of d l in
-    let same : cleared s t e ≡ l = ap (λ (n : ℕ). write_run l (next_byte s t) (replicate n 0)) none ∙ write_run_none l (next_byte s t) in
+    let same : write_run l (next_byte s t) [] ≡ l = write_run_none l (next_byte s t) in
     rw (x.has, x.index) (answered (next_index s t) (ap (state_of d') (sym same) ∙ x.after))

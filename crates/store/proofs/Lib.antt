@@ -1,3 +1,2 @@
 pub mod Additions
-pub mod Outcomes
 pub mod Starts

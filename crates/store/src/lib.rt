@@ -1,11 +1,7 @@
 // The object store over a bank.
-mod checks;
-mod descriptors;
+#![tactic(auto)]
+
 mod load;
-mod making;
-mod operand;
-mod operators;
 mod ranges;
-mod selectors;
 pub mod store;
 mod words;

@@ -1,19 +1,60 @@
 // The load calls.
+ghost use Rattle.std.specs.Prelude.{◌≡◌, ◌+◌, ◌*◌, ◌<◌, ◌≤◌};
 ghost use Rattle.rules.specs.Effects.{done};
-ghost use Rattle.rules.specs.Loading.{control_plan, fill_plan, grant_plan, place_plan, seal_plan, task_plan};
-ghost use Rattle.rules.specs.State.{empty};
+ghost use Rattle.rules.specs.Loading.{adding, control_plan, fill_plan, grant_plan, making, place_plan, seal_plan, starting, task_plan};
+ghost use Rattle.rules.specs.State.{empty, level as level_of};
+ghost use Rattle.rules.specs.Tests.{check, loading, refusal};
 ghost use Rattle.tables.specs.Live.{state_of};
-ghost use Rattle.std.specs.Prelude.{◌≡◌};
 
-use crate::checks::refusal_of;
 use crate::ranges;
 use crate::store::Store;
 use crate::words::word_of;
 use bank::Bank;
-use rules::entry::TypeControl;
+use rules::entry::{Entry, Storage, TypeControl};
 use rules::fault::{Fault, Reason};
-use rules::shown::{Descriptor, Place};
+use rules::shown::Descriptor;
 use tables::directory::Directory;
+
+const SMALLEST_BANK: u32 = 18432;
+
+// A fault of no operand.
+fn refusal_of(reason: Reason, task: u32) -> Fault
+    ensures { result ≡ refusal reason task }
+{
+    Fault {
+        reason,
+        task,
+        place: 0,
+        selector: 0,
+    }
+}
+
+// A test, or the fault of its failing.
+fn demand(holds: bool, reason: Reason, task: u32) -> Result<(), Fault>
+    ensures { result ≡ check holds (refusal reason task) }
+{
+    if holds {
+        Ok(())
+    } else {
+        Err(refusal_of(reason, task))
+    }
+}
+
+// The base of an object whose bytes begin here: its slots come first.
+fn base_of(start: u32, slots: u32) -> u16
+    requires { (start ≤ 18432) × (slots ≤ 512) }
+    ensures { result ≡ start + 4 * slots }
+{
+    (start + 4 * slots) as u16
+}
+
+// How many bytes an object takes, with its slots.
+fn extent_of(slots: u32, size: u32) -> u32
+    requires { (slots ≤ 512) × (size ≤ 2048) }
+    ensures { result ≡ 4 * slots + size }
+{
+    4 * slots + size
+}
 
 impl<B: Bank> Store<B> {
     // A store with empty tables and no task over the bank as it is.
@@ -24,6 +65,54 @@ impl<B: Bank> Store<B> {
             directory: Directory::new(),
             bank,
         }
+    }
+
+    // Whether load calls may come.
+    fn check_loading(&self, task: u32) -> Result<(), Fault>
+        ensures { result ≡ loading (state_of self.now.directory (bytes self.now.bank)) task }
+    {
+        demand(self.bank.size() >= SMALLEST_BANK, Reason::SmallBank, task)?;
+        demand(!self.directory.is_sealed(), Reason::WrongPhase, task)
+    }
+
+    // Makes a storage object in a table, all its bytes 0, and answers its index.
+    fn make(
+        &mut self,
+        table: u32,
+        size: u32,
+        slots: u32,
+        kind: u8,
+        level: u8,
+        task: u32,
+    ) -> Result<u32, Fault>
+        requires { (table < 9) × ((size ≤ 2048) × (slots ≤ 512)) }
+        ensures { (result, state_of self.new.directory (bytes self.new.bank)) ≡ done (state_of self.old.directory (bytes self.old.bank)) (making (state_of self.old.directory (bytes self.old.bank)) table size slots kind level task) }
+    {
+        let Some(start) = self.directory.start(table) else {
+            return Err(refusal_of(Reason::NoRoom, task));
+        };
+        let object = Storage {
+            base: base_of(start, slots),
+            bytes: size as u16,
+            slots: slots as u16,
+            kind,
+            level,
+        };
+        let Some(index) = self.directory.add(table, Entry::Object(object)) else {
+            return Err(refusal_of(Reason::NoRoom, task));
+        };
+        self.bank.clear_run(start, extent_of(slots, size));
+        Ok(index)
+    }
+
+    fn make_control(&mut self, table: u32, control: TypeControl) -> Result<u32, Fault>
+        requires { table < 9 }
+        ensures { (result, state_of self.new.directory (bytes self.new.bank)) ≡ done (state_of self.old.directory (bytes self.old.bank)) (adding (state_of self.old.directory (bytes self.old.bank)) table (Entry.Control control) 0) }
+    {
+        let Some(index) = self.directory.add(table, Entry::Control(control)) else {
+            return Err(refusal_of(Reason::NoRoom, 0));
+        };
+        Ok(index)
     }
 
     // Makes a storage object of level 0 and answers its index.
@@ -52,6 +141,16 @@ impl<B: Bank> Store<B> {
         self.make_control(table, control)
     }
 
+    // Makes the first context of a task in an empty stack and answers its index.
+    fn start_task(&mut self, number: u32, slots: u32) -> Result<u32, Fault>
+        requires { (number < 9) × ((slots ≤ 64) × (level_of (state_of self.old.directory (bytes self.old.bank)) number ≡ 0)) }
+        ensures { (result, state_of self.new.directory (bytes self.new.bank)) ≡ done (state_of self.old.directory (bytes self.old.bank)) (starting (state_of self.old.directory (bytes self.old.bank)) number slots) }
+    {
+        let index = self.make(number, 0, slots, 1, 1, number)?;
+        self.directory.enter(number, index);
+        Ok(index)
+    }
+
     // Makes the first context of a task and answers its index.
     pub fn task(&mut self, number: u32, slots: u32) -> Result<u32, Fault>
         ensures { (result, state_of self.new.directory (bytes self.new.bank)) ≡ done (state_of self.old.directory (bytes self.old.bank)) (task_plan number slots (state_of self.old.directory (bytes self.old.bank))) }
@@ -63,7 +162,7 @@ impl<B: Bank> Store<B> {
         if !ranges::context_slots(slots) {
             return Err(refusal_of(Reason::OutOfRange, number));
         }
-        self.open(number, slots, 0)
+        self.start_task(number, slots)
     }
 
     // Writes data bytes of a storage object.
@@ -113,11 +212,7 @@ impl<B: Bank> Store<B> {
             index: named_index as u16,
             rights: rights as u8,
         };
-        let place = Place {
-            by: shown,
-            at: slot as u16,
-        };
-        self.put(place, word_of(descriptor));
+        self.put(shown, slot as u16, word_of(descriptor));
         Ok(())
     }
 

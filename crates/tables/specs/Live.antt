@@ -3,7 +3,6 @@ use Rattle.std.specs.Prelude.{ℕ, Bool, ◌&&◌, List, map, reverse, take, nat
 use Rattle.rules.specs.State.{State, Table as Listed, level, table, takes}
 use Rattle.rules.specs.Tests.{has_room}
 use Rattle.rules.specs.declared.entry.Entry.{Entry}
-use Rattle.tables.specs.Bounds.{bounded}
 use Rattle.tables.specs.declared.directory.Directory.{Directory}
 use Rattle.tables.specs.declared.stack.Stack.{Stack}
 use Rattle.tables.specs.declared.table.Table.{Table}
@@ -20,13 +19,9 @@ stack_of k = reverse (take k.level k.contexts)
 unfoldable pub state_of : Directory → List ℕ → State
 state_of d l = record { tables = map table_of d.tables; stacks = map stack_of d.stacks; sealed = d.sealed; bytes = l }
 
--- there are such a table and room in it for this many bytes more
-unfoldable pub has_space : State → ℕ → ℕ → Bool
-has_space s t n = nat_lt t 9 && has_room (table s t) n
-
--- there are such a table and room in it for an entry, and the entry's runs are not too long for any object
+-- there are such a table and room in it for an entry
 unfoldable pub can_add : State → ℕ → Entry → Bool
-can_add s t e = nat_lt t 9 && (bounded e && has_room (table s t) (takes e))
+can_add s t e = nat_lt t 9 && has_room (table s t) (takes e)
 
 -- there are such a task and a level for one context more
 unfoldable pub can_enter : State → ℕ → Bool

@@ -1,11 +1,8 @@
 // What a directory answers, and how it changes.
-ghost use Rattle.std.specs.Prelude.{◌≡◌, ℕ, ◌+◌, ◌-◌, ◌*◌, ◌<◌, ◌≤◌, true, false, ◌&&◌, List, ◌∷◌, take, IfSome, if◌then◌else◌, Some, None, OnSome};
-ghost use Rattle.rules.specs.Effects.{grown, leave as leaving, next_index, popped, sealing, with_stack, with_table};
-ghost use Rattle.rules.specs.Operators.{calling as callingOf};
+ghost use Rattle.std.specs.Prelude.{◌≡◌, ℕ, ◌+◌, ◌<◌, ◌≤◌, true, false, ◌&&◌, List, ◌∷◌, IfSome, if◌then◌else◌, Some, None, OnSome, nat_lt};
+ghost use Rattle.rules.specs.Effects.{grown, next_index, sealing, with_stack, with_table};
 ghost use Rattle.rules.specs.State.{block_start, empty, entry as entry_at, level as level_of, part, shown as shownAt, shown_by, stack as stackAt, table as table_at};
-ghost use Rattle.rules.specs.Tests.{current as currentOf};
-ghost use Rattle.tables.specs.Bounds.{Short, bounded};
-ghost use Rattle.tables.specs.Live.{can_add, can_enter, has_space, state_of};
+ghost use Rattle.tables.specs.Live.{can_add, can_enter, state_of};
 
 use crate::directory::Directory;
 use crate::stack::Stack;
@@ -30,7 +27,7 @@ impl Directory {
 
     pub fn entry(&self, table: u32, index: u32) -> Option<Entry>
         ensures value { (l : List ℕ) → result ≡ entry_at (state_of self.now l) table index }
-        ensures bound { IfSome result (λ e. (table < 9) × (index < 64) × (bounded e ≡ true)) }
+        ensures bound { OnSome result ((table < 9) × (index < 64)) }
     {
         if table < TABLES {
             self.tables[table as usize].entry(index)
@@ -41,15 +38,13 @@ impl Directory {
 
     // What an entry shows.
     pub fn shown(&self, table: u32, index: u32) -> Shown
-        ensures value { (l : List ℕ) → result ≡ shownAt (state_of self.now l) table index }
-        ensures bound { Short result }
+        ensures { (l : List ℕ) → result ≡ shownAt (state_of self.now l) table index }
     {
         self.show(table, index)
     }
 
     fn show(&self, table: u32, index: u32) -> Shown
-        ensures value { (l : List ℕ) → result ≡ shown_by (state_of self.now l) table index (entry_at (state_of self.now l) table index) }
-        ensures bound { Short result }
+        ensures { (l : List ℕ) → result ≡ shown_by (state_of self.now l) table index (entry_at (state_of self.now l) table index) }
     {
         match self.entry(table, index) {
             Some(Entry::Object(o)) => Shown::whole(table, index, o),
@@ -60,9 +55,7 @@ impl Directory {
     }
 
     fn refined(&self, r: Refinement) -> Shown
-        requires { bounded (Entry.Refined r) ≡ true }
-        ensures value { (l : List ℕ) → result ≡ part r (entry_at (state_of self.now l) r.table r.index) }
-        ensures bound { Short result }
+        ensures { (l : List ℕ) → result ≡ part r (entry_at (state_of self.now l) r.table r.index) }
     {
         match self.entry(r.table as u32, r.index as u32) {
             Some(Entry::Object(o)) => Shown::part(r, o),
@@ -82,52 +75,28 @@ impl Directory {
         }
     }
 
-    // The current context of a task.
-    pub fn current(&self, task: u32) -> Option<u32>
-        ensures value { (l : List ℕ) → result ≡ currentOf (stackAt (state_of self.now l) task) }
-        ensures bound { OnSome result (task < 9) }
+    // Where the next bytes of a table's block begin.
+    pub fn start(&self, table: u32) -> Option<u32>
+        ensures value { (l : List ℕ) → result ≡ (if nat_lt table 9 then Some (block_start table + (table_at (state_of self.now l) table).claim) else None) }
+        ensures bound { IfSome result (λ a. a ≤ 18432) }
     {
-        if task < TABLES {
-            self.stacks[task as usize].current()
+        if table < TABLES {
+            Some(2048 * table + self.tables[table as usize].claim)
         } else {
             None
         }
-    }
-
-    // The context from which the current one of a task was called.
-    pub fn calling(&self, task: u32) -> Option<u32>
-        ensures { (l : List ℕ) → result ≡ callingOf (stackAt (state_of self.now l) task) }
-    {
-        if task < TABLES {
-            self.stacks[task as usize].calling()
-        } else {
-            None
-        }
-    }
-
-    // Where the next bytes of a table's block begin, if there are such a table and room in it for this many.
-    pub fn start(&self, table: u32, bytes: u32) -> Option<u32>
-        ensures value { (l : List ℕ) → result ≡ (if has_space (state_of self.now l) table bytes then Some (block_start table + (table_at (state_of self.now l) table).claim) else None) }
-        ensures bound { IfSome result (λ a. a + bytes ≤ 18432) }
-    {
-        if table >= TABLES {
-            return None;
-        }
-        let claim = self.tables[table as usize].free(bytes)?;
-        Some(2048 * table + claim as u32)
     }
 
     // Adds an entry to a table and answers its index, if there are such a table and room in it.
     pub fn add(&mut self, table: u32, entry: Entry) -> Option<u32>
         ensures value { (l : List ℕ) → result ≡ (if can_add (state_of self.old l) table entry then Some (next_index (state_of self.old l) table) else None) }
-        ensures bound { IfSome result (λ i. i < 64) }
         ensures after { (l : List ℕ) → state_of self.new l ≡ (if can_add (state_of self.old l) table entry then with_table table (grown (table_at (state_of self.old l) table) entry) (state_of self.old l) else state_of self.old l) }
     {
         if table >= TABLES {
             return None;
         }
         let at = table as usize;
-        let index = self.tables[at].next_index(entry);
+        let index = self.tables[at].next_index(entry.takes());
         self.tables[at].add(entry);
         index
     }
@@ -146,44 +115,6 @@ impl Directory {
         self.stacks[at].push(index);
     }
 
-    // Closes a context of a task: the entries from it on end, and the bytes from its first one on are free.
-    pub fn leave(&mut self, task: u32, context: u32)
-        ensures { (l : List ℕ) → state_of self.new l ≡ leaving task context (state_of self.old l) }
-    {
-        if task >= TABLES {
-            return;
-        }
-        let claim = bytes_before(self.shown(task, context), 2048 * task);
-        self.cut(task, context, claim);
-        self.pop(task);
-    }
-
-    // Ends the entries of a table from an index on, and sets how many bytes of its block are taken.
-    fn cut(&mut self, table: u32, index: u32, claim: u16)
-        ensures { (l : List ℕ) → state_of self.new l ≡ with_table table (record { entries = take index (table_at (state_of self.old l) table).entries; claim = claim }) (state_of self.old l) }
-    {
-        if table >= TABLES {
-            return;
-        }
-        let at = table as usize;
-        let count = self.tables[at].len().min(index as usize);
-        self.tables[at].cut(count, claim);
-    }
-
-    // Closes the current context of a task, if one is open.
-    fn pop(&mut self, task: u32)
-        ensures { (l : List ℕ) → state_of self.new l ≡ with_stack task (popped (stackAt (state_of self.old l) task)) (state_of self.old l) }
-    {
-        if task >= TABLES {
-            return;
-        }
-        let at = task as usize;
-        if self.stacks[at].level() == 0 {
-            return;
-        }
-        self.stacks[at].pop();
-    }
-
     pub fn is_sealed(&self) -> bool
         ensures { (l : List ℕ) → result ≡ (state_of self.now l).sealed }
     {
@@ -195,12 +126,4 @@ impl Directory {
     {
         self.sealed = true;
     }
-}
-
-// How many bytes of a block lie before the first byte of an object.
-fn bytes_before(object: Shown, block: u32) -> u16
-    ensures { result ≡ object.base - 4 * object.slots - block }
-{
-    let first = (object.base as u32).saturating_sub(4 * object.slots as u32);
-    first.saturating_sub(block) as u16
 }

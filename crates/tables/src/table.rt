@@ -1,6 +1,5 @@
 // One table: its entries in order of making, and how many bytes of its block are taken.
-ghost use Rattle.std.specs.Prelude.{◌≡◌, ◌≤◌, true, length};
-ghost use Rattle.tables.specs.Bounds.{are_bounded};
+ghost use Rattle.std.specs.Prelude.{◌≡◌, ◌≤◌, length};
 
 use rules::entry::Entry;
 
@@ -8,8 +7,8 @@ use rules::entry::Entry;
 pub struct Table {
     pub(crate) entries: [Entry; 64],
     pub(crate) count: usize,
-    pub(crate) claim: u16,
+    pub(crate) claim: u32,
     ghost wide: { length entries ≡ 64 },
     ghost few: { count ≤ 64 },
-    ghost short: { are_bounded entries ≡ true },
+    ghost claimed: { claim ≤ 2048 },
 }

@@ -1,4 +1,6 @@
 // A magnetometer record in coded and in plain memory: every bit of that memory is turned in turn, and the record read back.
+#![tactic(auto)]
+
 use magnetometer::Record;
 use magnetometer::tally::Tally;
 use std::io;

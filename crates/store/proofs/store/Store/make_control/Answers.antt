@@ -1,20 +1,19 @@
-use Rattle.std.proofs.Common.{ℕ, List, refl, arith}
-use Rattle.rules.specs.declared.entry.Entry.TheVariants.{Control}
+use Rattle.std.proofs.Common.{ℕ, List, arith}
 use Rattle.rules.specs.Tests.{◌≫=◌, check, room}
 use Rattle.rules.specs.Effects.{done}
 use Rattle.rules.specs.Loading.{adding}
-use Rattle.store.proofs.Additions.{added, not_added, taken}
+use Rattle.store.proofs.Additions.{added, controlled, not_added}
 use Rattle.store.proofs.store.Store.make_control.Goals as goal
 
 pub returns-in-default : goal.returns-in-default
 unfolding adding room ◌≫=◌ check done
 returns-in-default g c =
     let l : List ℕ = g.B.Bank.bytes c.args.self.now.bank in
-    let full = not_added c.args.self.now.directory c.add.new.self c.args.table _ (omega arith) refl c.add.ensures.after l c.in-default.ensures.value in
+    let full = not_added c.args.self.now.directory c.add.new.self c.args.table _ (omega arith) c.add.ensures.after l c.in-default.ensures.value in
     rw (full.0, full.1, c.refusal-of.ensures)
 
 pub returns : goal.returns
 returns g c =
     let l : List ℕ = g.B.Bank.bytes c.args.self.now.bank in
-    taken c.args.self.now.directory c.add.new.self l c.args.table c.in-Some.index 0 (Control c.args.control) refl
-    (added c.args.self.now.directory c.add.new.self c.args.table _ (omega arith) refl c.add.ensures.after l c.in-Some.index c.in-Some.ensures.value)
+    controlled c.args.self.now.directory c.add.new.self l c.args.table c.in-Some.index 0 c.args.control
+    (added c.args.self.now.directory c.add.new.self c.args.table _ (omega arith) c.add.ensures.after l c.in-Some.index c.in-Some.ensures.value)

@@ -1,8 +1,7 @@
-use Rattle.std.proofs.Common.{◌≡◌, ◌<◌, true, IfSome, Some, None, Option, sym, ap, ◌∙◌}
+use Rattle.std.proofs.Common.{◌<◌, IfSome, Some, None, Option, sym, ap, ◌∙◌}
 use Rattle.std.specs.List.{slice_get}
 use Rattle.rules.specs.declared.entry.Entry.{Entry}
 use Rattle.rules.specs.State.{Table, entry}
-use Rattle.tables.specs.Bounds.{bounded}
 use Rattle.tables.proofs.States.{table_at, table_beyond}
 use Rattle.tables.proofs.directory.Directory.entry.Goals as goal
 
@@ -14,8 +13,8 @@ returns-then-table-lt-TABLES c =
       bound = both c.entry.result c.entry.ensures.bound;
     }
   where
-    both : (o : Option Entry) → IfSome o (λ e. (c.args.index < 64) × (bounded e ≡ true)) → IfSome o (λ e. (c.args.table < 9) × (c.args.index < 64) × (bounded e ≡ true))
-    both (Some e) h = (c.if-table-lt-TABLES.true, h.0, h.1)
+    both : (o : Option Entry) → IfSome o (λ _. c.args.index < 64) → IfSome o (λ _. (c.args.table < 9) × (c.args.index < 64))
+    both (Some e) h = (c.if-table-lt-TABLES.true, h)
     both None h = tt
 
 pub returns-else-table-lt-TABLES : goal.returns-else-table-lt-TABLES

@@ -3,4 +3,4 @@ use Rattle.tables.proofs.directory.Directory.shown.Goals as goal
 
 pub returns : goal.returns
 unfolding shown
-returns c = record { value = λ l. c.show.ensures.value l; bound = c.show.ensures.bound }
+returns c l = c.show.ensures l

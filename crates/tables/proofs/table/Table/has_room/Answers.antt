@@ -4,14 +4,14 @@ use Rattle.std.proofs.lemmas.Bool.Decides.{nat_tests}
 use Rattle.rules.specs.Tests.{has_room}
 use Rattle.tables.proofs.table.Table.has_room.Goals as goal
 
-pub returns-then-claim-le-BLOCK : goal.returns-then-claim-le-BLOCK
+pub returns-then-self-lt-MOST-ENTRIES : goal.returns-then-self-lt-MOST-ENTRIES
 unfolding has_room
-returns-then-claim-le-BLOCK c =
+returns-then-self-lt-MOST-ENTRIES c =
     let count : length (take c.args.self.now.count c.args.self.now.entries) ≡ c.args.self.now.count = length-take-le _ _ (omega arith) in
     grind (arith, nat_tests)
 
-pub returns-else-claim-le-BLOCK : goal.returns-else-claim-le-BLOCK
+pub returns-else-self-lt-MOST-ENTRIES : goal.returns-else-self-lt-MOST-ENTRIES
 unfolding has_room
-returns-else-claim-le-BLOCK c =
+returns-else-self-lt-MOST-ENTRIES c =
     let count : length (take c.args.self.now.count c.args.self.now.entries) ≡ c.args.self.now.count = length-take-le _ _ (omega arith) in
     grind (arith, nat_tests)
