@@ -5,8 +5,8 @@ use Rattle.magnetometer.proofs.square.Goals as goal
 
 pub returns : goal.returns
 returns c =
-    let size : c.unsigned-abs-size.result ≡ nat_abs c.args.n = c.unsigned-abs-size.ensures.value ∙ ap nat_abs (to_z-of_z w16 c.args.n c.ranges.n) in
+    let size : c.unsigned_abs-size.result ≡ nat_abs c.args.n = c.unsigned_abs-size.ensures.value ∙ ap nat_abs (to_z-of_z w16 c.args.n c.ranges.n) in
     record {
       value = ap (λ (m : ℕ). m * m) size;
-      bound = mul-le c.unsigned-abs-size.result c.unsigned-abs-size.result 32768 32768 (search rules) (search rules);
+      bound = mul-le c.unsigned_abs-size.result c.unsigned_abs-size.result 32768 32768 (search rules) (search rules);
     }

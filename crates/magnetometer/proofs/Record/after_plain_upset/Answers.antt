@@ -7,11 +7,11 @@ use Rattle.magnetometer.proofs.Record.after_plain_upset.Goals as goal
 
 pub returns : goal.returns
 returns c =
-    let bs : List ℕ = c.to-bytes.result in
+    let bs : List ℕ = c.to_bytes.result in
     let six : length bs ≡ 6 = search rules in
-    let held : c.store-plain.new.memory ≡ bs = stored _ bs c.store-plain.new.memory (omega arith) (omega arith) (search rules) c.store-plain.ensures in
-    let m : List ℕ = c.turn-byte.new.memory in
-    let after : m ≡ upset 8 bs c.args.byte c.args.bit = c.turn-byte.ensures ∙ ap (λ (l : List ℕ). upset 8 l c.args.byte c.args.bit) held in
+    let held : c.store_plain.new.memory ≡ bs = stored _ bs c.store_plain.new.memory (omega arith) (omega arith) (search rules) c.store_plain.ensures in
+    let m : List ℕ = c.turn_byte.new.memory in
+    let after : m ≡ upset 8 bs c.args.byte c.args.bit = c.turn_byte.ensures ∙ ap (λ (l : List ℕ). upset 8 l c.args.byte c.args.bit) held in
     let whole : used m ≡ m = used_all m (search rules) in
-    let read : c.load-plain.new.bytes ≡ m = loaded (used m) c.load-plain.new.bytes 6 (rw whole (search rules)) c.load-plain.ensures ∙ whole in
-    c.from-bytes.ensures ∙ read ∙ after ∙ ap (λ (l : List ℕ). upset 8 l c.args.byte c.args.bit) c.to-bytes.ensures
+    let read : c.load_plain.new.bytes ≡ m = loaded (used m) c.load_plain.new.bytes 6 (rw whole (search rules)) c.load_plain.ensures ∙ whole in
+    c.from_bytes.ensures ∙ read ∙ after ∙ ap (λ (l : List ℕ). upset 8 l c.args.byte c.args.bit) c.to_bytes.ensures

@@ -9,6 +9,6 @@ returns c =
     let k : ℕ = c.clip-from.result.1 in
     let n : ℕ = length c.args.out.now in
     let inside : k ≡ min n (size - f) = omega arith in
-    let head : c.copy-from-slice.new.self ≡ take k (drop f c.args.self.now.memory.now) = search rules in
+    let head : c.copy_from_slice.new.self ≡ take k (drop f c.args.self.now.memory.now) = search rules in
     let zeros : c.fill.new.self ≡ replicate (n - k) 0 = search rules in
-    copied_out c.args.self.now.memory.now c.args.address size f c.count.ensures c.clip-from.ensures.from n k inside c.copy-from-slice.new.self _ c.fill.new.self (search rules) head zeros
+    copied_out c.args.self.now.memory.now c.args.address size f c.count.ensures c.clip-from.ensures.from n k inside c.copy_from_slice.new.self _ c.fill.new.self (search rules) head zeros
