@@ -20,7 +20,7 @@ returns c =
     let x : Table = c.index-self-at.result in
     record {
       value = λ l.
-          c.next-index-index.ensures ∙ rw (c.takes.ensures, can_add_lem c.args.self.now l t c.args.entry x inside, table_at c.args.self.now l t x inside);
+          c.next_index-index.ensures ∙ rw (c.takes.ensures, can_add_lem c.args.self.now l t c.args.entry x inside, table_at c.args.self.now l t x inside);
       after = λ l.
           added c.args.self.now l t c.args.entry c.index-self-at-2.result inside _ (tables_set c.args.self.now _ l t _ refl refl refl ∙ ap (λ (y : Listed). with_table t y (state_of c.args.self.now l)) c.add.ensures);
     }

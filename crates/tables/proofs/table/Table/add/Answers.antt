@@ -6,16 +6,16 @@ use Rattle.tables.specs.Live.{table_of}
 use Rattle.tables.proofs.Space.{room_is}
 use Rattle.tables.proofs.table.Table.add.Goals as goal
 
-pub returns-then-has-room : goal.returns-then-has-room
+pub returns-then-has_room : goal.returns-then-has_room
 unfolding grown
-returns-then-has-room c =
-    let room : has_room (table_of c.args.self.now) (takes c.args.entry) ≡ true = rw (← c.takes-bytes.ensures) (sym c.has-room.ensures ∙ c.if-has-room.true) in
+returns-then-has_room c =
+    let room : has_room (table_of c.args.self.now) (takes c.args.entry) ≡ true = rw (← c.takes-bytes.ensures) (sym c.has_room.ensures ∙ c.if-has_room.true) in
     rw (room, ← c.takes-bytes.ensures) c.push.ensures
 
-pub returns-else-has-room : goal.returns-else-has-room
-returns-else-has-room c =
-    let full : has_room (table_of c.args.self.now) (takes c.args.entry) ≡ false = rw (← c.takes-bytes.ensures) (sym c.has-room.ensures ∙ c.if-has-room.false) in
+pub returns-else-has_room : goal.returns-else-has_room
+returns-else-has_room c =
+    let full : has_room (table_of c.args.self.now) (takes c.args.entry) ≡ false = rw (← c.takes-bytes.ensures) (sym c.has_room.ensures ∙ c.if-has_room.false) in
     rw full
 
 pub push-requires : goal.push-requires
-push-requires c = room_is (table_of c.args.self.now) c.takes-bytes.result (sym c.if-has-room.ensures)
+push-requires c = room_is (table_of c.args.self.now) c.takes-bytes.result (sym c.if-has_room.ensures)

@@ -4,13 +4,13 @@ use Rattle.rules.specs.Tests.{has_room}
 use Rattle.tables.specs.Live.{table_of}
 use Rattle.tables.proofs.table.Table.next_index.Goals as goal
 
-pub returns-then-has-room : goal.returns-then-has-room
-returns-then-has-room c =
-    let room : has_room (table_of c.args.self.now) c.args.bytes ≡ true = sym c.has-room.ensures ∙ c.if-has-room.true in
+pub returns-then-has_room : goal.returns-then-has_room
+returns-then-has_room c =
+    let room : has_room (table_of c.args.self.now) c.args.bytes ≡ true = sym c.has_room.ensures ∙ c.if-has_room.true in
     let count : length (take c.args.self.now.count c.args.self.now.entries) ≡ c.args.self.now.count = length-take-le _ _ (omega arith) in
     rw (room, count)
 
-pub returns-else-has-room : goal.returns-else-has-room
-returns-else-has-room c =
-    let full : has_room (table_of c.args.self.now) c.args.bytes ≡ false = sym c.has-room.ensures ∙ c.if-has-room.false in
+pub returns-else-has_room : goal.returns-else-has_room
+returns-else-has_room c =
+    let full : has_room (table_of c.args.self.now) c.args.bytes ≡ false = sym c.has_room.ensures ∙ c.if-has_room.false in
     rw full
