@@ -17,7 +17,7 @@ pub(crate) const NEWLINE: u8 = 10;
 
 // The reply to one line.
 fn answer<B: Bank>(store: &mut Store<B>, text: &[u8]) -> Reply
-    ensures { (result, state_of store.new.directory (bytes store.new.bank)) ≡ answer_of text.now (state_of store.old.directory (bytes store.old.bank)) }
+    ensures { (result, state_of store.new.directory (B.bytes store.new.bank)) ≡ answer_of text.now (state_of store.old.directory (B.bytes store.old.bank)) }
 {
     match line(text) {
         Some(l) => run(store, l),
@@ -43,7 +43,7 @@ pub(crate) fn answers<B: Bank>(
     store: &mut Store<B>,
     text: &[u8],
 ) -> Result<Vec<u8>, AllocError>
-    ensures { IfOk result (λ v. v.items ≡ replies_of (lines_of text.now) (state_of store.old.directory (bytes store.old.bank))) }
+    ensures { IfOk result (λ v. v.items ≡ replies_of (lines_of text.now) (state_of store.old.directory (B.bytes store.old.bank))) }
 {
     let mut out = Vec::new(heap);
     let mut rest = text;

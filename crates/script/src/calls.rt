@@ -30,7 +30,7 @@ fn done_reply(r: Result<(), Fault>) -> Reply
 
 // Makes the call of a line.
 pub fn run<B: Bank>(store: &mut Store<B>, line: Line) -> Reply
-    ensures { (result, state_of store.new.directory (bytes store.new.bank)) ≡ run_of line (state_of store.old.directory (bytes store.old.bank)) }
+    ensures { (result, state_of store.new.directory (B.bytes store.new.bank)) ≡ run_of line (state_of store.old.directory (B.bytes store.old.bank)) }
 {
     let a = line.a as u32;
     let b = line.b as u32;
@@ -47,7 +47,7 @@ pub fn run<B: Bank>(store: &mut Store<B>, line: Line) -> Reply
 }
 
 fn fill<B: Bank>(store: &mut Store<B>, line: Line) -> Reply
-    ensures { (result, state_of store.new.directory (bytes store.new.bank)) ≡ fill_of line (state_of store.old.directory (bytes store.old.bank)) }
+    ensures { (result, state_of store.new.directory (B.bytes store.new.bank)) ≡ fill_of line (state_of store.old.directory (B.bytes store.old.bank)) }
 {
     if line.d > 255 {
         return Reply::Bad;

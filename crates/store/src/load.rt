@@ -59,7 +59,7 @@ fn extent_of(slots: u32, size: u32) -> u32
 impl<B: Bank> Store<B> {
     // A store with empty tables and no task over the bank as it is.
     pub fn new(bank: B) -> Store<B>
-        ensures { state_of result.directory (bytes result.bank) ≡ empty (bytes bank) }
+        ensures { state_of result.directory (B.bytes result.bank) ≡ empty (B.bytes bank) }
     {
         Store {
             directory: Directory::new(),
@@ -69,7 +69,7 @@ impl<B: Bank> Store<B> {
 
     // Whether load calls may come.
     fn check_loading(&self, task: u32) -> Result<(), Fault>
-        ensures { result ≡ loading (state_of self.now.directory (bytes self.now.bank)) task }
+        ensures { result ≡ loading (state_of self.now.directory (B.bytes self.now.bank)) task }
     {
         demand(self.bank.size() >= SMALLEST_BANK, Reason::SmallBank, task)?;
         demand(!self.directory.is_sealed(), Reason::WrongPhase, task)
@@ -86,7 +86,7 @@ impl<B: Bank> Store<B> {
         task: u32,
     ) -> Result<u32, Fault>
         requires { (table < 9) × ((size ≤ 2048) × (slots ≤ 512)) }
-        ensures { (result, state_of self.new.directory (bytes self.new.bank)) ≡ done (state_of self.old.directory (bytes self.old.bank)) (making (state_of self.old.directory (bytes self.old.bank)) table size slots kind level task) }
+        ensures { (result, state_of self.new.directory (B.bytes self.new.bank)) ≡ done (state_of self.old.directory (B.bytes self.old.bank)) (making (state_of self.old.directory (B.bytes self.old.bank)) table size slots kind level task) }
     {
         let Some(start) = self.directory.start(table) else {
             return Err(refusal_of(Reason::NoRoom, task));
@@ -107,7 +107,7 @@ impl<B: Bank> Store<B> {
 
     fn make_control(&mut self, table: u32, control: TypeControl) -> Result<u32, Fault>
         requires { table < 9 }
-        ensures { (result, state_of self.new.directory (bytes self.new.bank)) ≡ done (state_of self.old.directory (bytes self.old.bank)) (adding (state_of self.old.directory (bytes self.old.bank)) table (Entry.Control control) 0) }
+        ensures { (result, state_of self.new.directory (B.bytes self.new.bank)) ≡ done (state_of self.old.directory (B.bytes self.old.bank)) (adding (state_of self.old.directory (B.bytes self.old.bank)) table (Entry.Control control) 0) }
     {
         let Some(index) = self.directory.add(table, Entry::Control(control)) else {
             return Err(refusal_of(Reason::NoRoom, 0));
@@ -117,7 +117,7 @@ impl<B: Bank> Store<B> {
 
     // Makes a storage object of level 0 and answers its index.
     pub fn place(&mut self, table: u32, size: u32, slots: u32, kind: u32) -> Result<u32, Fault>
-        ensures { (result, state_of self.new.directory (bytes self.new.bank)) ≡ done (state_of self.old.directory (bytes self.old.bank)) (place_plan table size slots kind (state_of self.old.directory (bytes self.old.bank))) }
+        ensures { (result, state_of self.new.directory (B.bytes self.new.bank)) ≡ done (state_of self.old.directory (B.bytes self.old.bank)) (place_plan table size slots kind (state_of self.old.directory (B.bytes self.old.bank))) }
     {
         self.check_loading(0)?;
         if !ranges::place_numbers(table, size, slots, kind) {
@@ -128,7 +128,7 @@ impl<B: Bank> Store<B> {
 
     // Makes a type control and answers its index.
     pub fn control(&mut self, table: u32, kind: u32, rights: u32) -> Result<u32, Fault>
-        ensures { (result, state_of self.new.directory (bytes self.new.bank)) ≡ done (state_of self.old.directory (bytes self.old.bank)) (control_plan table kind rights (state_of self.old.directory (bytes self.old.bank))) }
+        ensures { (result, state_of self.new.directory (B.bytes self.new.bank)) ≡ done (state_of self.old.directory (B.bytes self.old.bank)) (control_plan table kind rights (state_of self.old.directory (B.bytes self.old.bank))) }
     {
         self.check_loading(0)?;
         if !ranges::control_numbers(table, kind, rights) {
@@ -143,8 +143,8 @@ impl<B: Bank> Store<B> {
 
     // Makes the first context of a task in an empty stack and answers its index.
     fn start_task(&mut self, number: u32, slots: u32) -> Result<u32, Fault>
-        requires { (number < 9) × ((slots ≤ 64) × (level_of (state_of self.old.directory (bytes self.old.bank)) number ≡ 0)) }
-        ensures { (result, state_of self.new.directory (bytes self.new.bank)) ≡ done (state_of self.old.directory (bytes self.old.bank)) (starting (state_of self.old.directory (bytes self.old.bank)) number slots) }
+        requires { (number < 9) × ((slots ≤ 64) × (level_of (state_of self.old.directory (B.bytes self.old.bank)) number ≡ 0)) }
+        ensures { (result, state_of self.new.directory (B.bytes self.new.bank)) ≡ done (state_of self.old.directory (B.bytes self.old.bank)) (starting (state_of self.old.directory (B.bytes self.old.bank)) number slots) }
     {
         let index = self.make(number, 0, slots, 1, 1, number)?;
         self.directory.enter(number, index);
@@ -153,7 +153,7 @@ impl<B: Bank> Store<B> {
 
     // Makes the first context of a task and answers its index.
     pub fn task(&mut self, number: u32, slots: u32) -> Result<u32, Fault>
-        ensures { (result, state_of self.new.directory (bytes self.new.bank)) ≡ done (state_of self.old.directory (bytes self.old.bank)) (task_plan number slots (state_of self.old.directory (bytes self.old.bank))) }
+        ensures { (result, state_of self.new.directory (B.bytes self.new.bank)) ≡ done (state_of self.old.directory (B.bytes self.old.bank)) (task_plan number slots (state_of self.old.directory (B.bytes self.old.bank))) }
     {
         self.check_loading(number)?;
         if !ranges::is_free_task(number, self.directory.level(number)) {
@@ -167,7 +167,7 @@ impl<B: Bank> Store<B> {
 
     // Writes data bytes of a storage object.
     pub fn fill(&mut self, table: u32, index: u32, offset: u32, source: &[u8]) -> Result<(), Fault>
-        ensures { (result, state_of self.new.directory (bytes self.new.bank)) ≡ done (state_of self.old.directory (bytes self.old.bank)) (fill_plan table index offset source.now (state_of self.old.directory (bytes self.old.bank))) }
+        ensures { (result, state_of self.new.directory (B.bytes self.new.bank)) ≡ done (state_of self.old.directory (B.bytes self.old.bank)) (fill_plan table index offset source.now (state_of self.old.directory (B.bytes self.old.bank))) }
     {
         self.check_loading(0)?;
         let target = self.directory.entry(table, index);
@@ -192,7 +192,7 @@ impl<B: Bank> Store<B> {
         named_index: u32,
         rights: u32,
     ) -> Result<(), Fault>
-        ensures { (result, state_of self.new.directory (bytes self.new.bank)) ≡ done (state_of self.old.directory (bytes self.old.bank)) (grant_plan table index slot named_table named_index rights (state_of self.old.directory (bytes self.old.bank))) }
+        ensures { (result, state_of self.new.directory (B.bytes self.new.bank)) ≡ done (state_of self.old.directory (B.bytes self.old.bank)) (grant_plan table index slot named_table named_index rights (state_of self.old.directory (B.bytes self.old.bank))) }
     {
         self.check_loading(0)?;
         let target = self.directory.entry(table, index);
@@ -218,7 +218,7 @@ impl<B: Bank> Store<B> {
 
     // Ends loading.
     pub fn seal(&mut self) -> Result<(), Fault>
-        ensures { (result, state_of self.new.directory (bytes self.new.bank)) ≡ done (state_of self.old.directory (bytes self.old.bank)) (seal_plan (state_of self.old.directory (bytes self.old.bank))) }
+        ensures { (result, state_of self.new.directory (B.bytes self.new.bank)) ≡ done (state_of self.old.directory (B.bytes self.old.bank)) (seal_plan (state_of self.old.directory (B.bytes self.old.bank))) }
     {
         self.check_loading(0)?;
         self.directory.seal();

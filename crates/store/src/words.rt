@@ -19,7 +19,7 @@ pub(crate) fn word_of(d: Descriptor) -> u32
 impl<B: Bank> Store<B> {
     // Puts a word into a slot that is shown.
     pub(crate) fn put(&mut self, shown: Shown, slot: u16, word: u32)
-        ensures { state_of self.new.directory (bytes self.new.bank) ≡ put_at (record { by = shown; at = slot }) word (state_of self.old.directory (bytes self.old.bank)) }
+        ensures { state_of self.new.directory (B.bytes self.new.bank) ≡ put_at (record { by = shown; at = slot }) word (state_of self.old.directory (B.bytes self.old.bank)) }
     {
         self.bank
             .write_run(shown.slot_at(slot), &word.to_le_bytes());

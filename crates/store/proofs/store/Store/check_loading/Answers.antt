@@ -3,10 +3,10 @@ use Rattle.rules.specs.Tests.{◌≫=◌, loading}
 use Rattle.tables.specs.Live.{state_of}
 use Rattle.store.proofs.store.Store.check_loading.Goals as goal
 
-pub returns-in-err-demand : goal.returns-in-err-demand
+pub returns-in_err-demand : goal.returns-in_err-demand
 unfolding loading ◌≫=◌ state_of
-returns-in-err-demand g c = search rules
+returns-in_err-demand g c = search rules
 
 pub returns : goal.returns
 unfolding loading ◌≫=◌ state_of
-returns g c = let phase = c.is-sealed.ensures (g.B.Bank.bytes c.args.self.now.bank) in search rules
+returns g c = let phase = c.is_sealed.ensures (g.B.Bank.bytes c.args.self.now.bank) in search rules

@@ -4,13 +4,13 @@ use Rattle.rules.specs.Loading.{control_plan}
 use Rattle.rules.specs.Tests.{◌≫=◌, check, in_range}
 use Rattle.store.proofs.store.Store.control.Goals as goal
 
-pub returns-in-err-check-loading : goal.returns-in-err-check-loading
+pub returns-in_err-check_loading : goal.returns-in_err-check_loading
 unfolding control_plan ◌≫=◌ done
-returns-in-err-check-loading g c = search rules
+returns-in_err-check_loading g c = search rules
 
-pub returns-then-not-control-numbers : goal.returns-then-not-control-numbers
+pub returns-then-not-control_numbers : goal.returns-then-not-control_numbers
 unfolding control_plan ◌≫=◌ in_range check done
-returns-then-not-control-numbers g c = search rules
+returns-then-not-control_numbers g c = search rules
 
 pub returns : goal.returns
 unfolding control_plan ◌≫=◌ in_range check

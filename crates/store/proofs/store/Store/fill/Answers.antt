@@ -5,20 +5,20 @@ use Rattle.rules.specs.Tests.{◌≫=◌, check, in_range}
 use Rattle.tables.specs.Live.{state_of}
 use Rattle.store.proofs.store.Store.fill.Goals as goal
 
-pub returns-in-err-check-loading : goal.returns-in-err-check-loading
+pub returns-in_err-check_loading : goal.returns-in_err-check_loading
 unfolding fill_plan ◌≫=◌ done
-returns-in-err-check-loading g c = search rules
+returns-in_err-check_loading g c = search rules
 
-pub returns-then-not-is-target : goal.returns-then-not-is-target
+pub returns-then-not-is_target : goal.returns-then-not-is_target
 unfolding fill_plan ◌≫=◌ check done
-returns-then-not-is-target g c =
+returns-then-not-is_target g c =
     let l : List ℕ = g.B.Bank.bytes c.args.self.now.bank in
     let target = c.entry-target.ensures.value l in
     search rules
 
-pub returns-then-not-fill-numbers : goal.returns-then-not-fill-numbers
+pub returns-then-not-fill_numbers : goal.returns-then-not-fill_numbers
 unfolding fill_plan ◌≫=◌ check in_range done
-returns-then-not-fill-numbers g c =
+returns-then-not-fill_numbers g c =
     let l : List ℕ = g.B.Bank.bytes c.args.self.now.bank in
     let target = c.entry-target.ensures.value l in
     let shown = c.shown-shown.ensures l in

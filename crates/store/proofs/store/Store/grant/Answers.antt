@@ -4,30 +4,30 @@ use Rattle.rules.specs.Loading.{grant_plan}
 use Rattle.rules.specs.Tests.{◌≫=◌, check, in_range}
 use Rattle.store.proofs.store.Store.grant.Goals as goal
 
-pub returns-in-err-check-loading : goal.returns-in-err-check-loading
+pub returns-in_err-check_loading : goal.returns-in_err-check_loading
 unfolding grant_plan ◌≫=◌ done
-returns-in-err-check-loading g c = search rules
+returns-in_err-check_loading g c = search rules
 
-pub returns-then-not-may-grant : goal.returns-then-not-may-grant
+pub returns-then-not-may_grant : goal.returns-then-not-may_grant
 unfolding grant_plan ◌≫=◌ check done
-returns-then-not-may-grant g c =
+returns-then-not-may_grant g c =
     let l : List ℕ = g.B.Bank.bytes c.args.self.now.bank in
     let target = c.entry-target.ensures.value l in
     let named = c.entry-named.ensures.value l in
     search rules
 
-pub returns-in-default : goal.returns-in-default
+pub returns-in_default : goal.returns-in_default
 unfolding grant_plan ◌≫=◌ check in_range done
-returns-in-default g c =
+returns-in_default g c =
     let l : List ℕ = g.B.Bank.bytes c.args.self.now.bank in
     let target = c.entry-target.ensures.value l in
     let named = c.entry-named.ensures.value l in
     let shown = c.shown-shown.ensures l in
     search rules
 
-pub returns-then-not-grant-numbers : goal.returns-then-not-grant-numbers
+pub returns-then-not-grant_numbers : goal.returns-then-not-grant_numbers
 unfolding grant_plan ◌≫=◌ check in_range done
-returns-then-not-grant-numbers g c =
+returns-then-not-grant_numbers g c =
     let l : List ℕ = g.B.Bank.bytes c.args.self.now.bank in
     let target = c.entry-target.ensures.value l in
     let named = c.entry-named.ensures.value l in

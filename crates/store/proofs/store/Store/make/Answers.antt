@@ -10,12 +10,12 @@ use Rattle.tables.specs.Live.{state_of}
 use Rattle.store.proofs.Additions.{added, begin_is, made, not_added, next_byte}
 use Rattle.store.proofs.store.Store.make.Goals as goal
 
-pub returns-in-default-add : goal.returns-in-default-add
+pub returns-in_default-add : goal.returns-in_default-add
 unfolding making adding new_object room ◌≫=◌ check done
-returns-in-default-add g c =
+returns-in_default-add g c =
     let l : List ℕ = g.B.Bank.bytes c.args.self.now.bank in
-    let full = not_added c.args.self.now.directory c.add.new.self c.args.table _ (omega arith) c.add.ensures.after l c.in-default-add.ensures.value in
-    rw (full.0, full.1, c.refusal-of-in-default-add.ensures)
+    let full = not_added c.args.self.now.directory c.add.new.self c.args.table _ (omega arith) c.add.ensures.after l c.in_default-add.ensures.value in
+    rw (full.0, full.1, c.refusal_of-in_default-add.ensures)
 
 pub returns : goal.returns
 returns g c =
@@ -23,6 +23,6 @@ returns g c =
     let d : Directory = c.args.self.now.directory in
     let inside : c.args.table < 9 = omega arith in
     let begins : c.in-Some.start ≡ next_byte (state_of d l) c.args.table = begin_is c.in-Some.start c.args.table (next_byte (state_of d l) c.args.table) inside (c.in-Some.ensures.value l) in
-    made d c.add.new.self l (g.B.Bank.bytes c.clear-run.new.self) c.args.table c.args.size c.args.slots c.args.kind c.args.level c.args.task c.in-Some-add.index c.in-Some.start c.base-of.result c.extent-of.result
-    begins c.base-of.ensures c.extent-of.ensures c.clear-run.ensures
+    made d c.add.new.self l (g.B.Bank.bytes c.clear_run.new.self) c.args.table c.args.size c.args.slots c.args.kind c.args.level c.args.task c.in-Some-add.index c.in-Some.start c.base_of.result c.extent_of.result
+    begins c.base_of.ensures c.extent_of.ensures c.clear_run.ensures
     (added d c.add.new.self c.args.table _ inside c.add.ensures.after l c.in-Some-add.index c.in-Some-add.ensures.value)

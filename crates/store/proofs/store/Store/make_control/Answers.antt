@@ -5,12 +5,12 @@ use Rattle.rules.specs.Loading.{adding}
 use Rattle.store.proofs.Additions.{added, controlled, not_added}
 use Rattle.store.proofs.store.Store.make_control.Goals as goal
 
-pub returns-in-default : goal.returns-in-default
+pub returns-in_default : goal.returns-in_default
 unfolding adding room ◌≫=◌ check done
-returns-in-default g c =
+returns-in_default g c =
     let l : List ℕ = g.B.Bank.bytes c.args.self.now.bank in
-    let full = not_added c.args.self.now.directory c.add.new.self c.args.table _ (omega arith) c.add.ensures.after l c.in-default.ensures.value in
-    rw (full.0, full.1, c.refusal-of.ensures)
+    let full = not_added c.args.self.now.directory c.add.new.self c.args.table _ (omega arith) c.add.ensures.after l c.in_default.ensures.value in
+    rw (full.0, full.1, c.refusal_of.ensures)
 
 pub returns : goal.returns
 returns g c =

@@ -4,13 +4,13 @@ use Rattle.rules.specs.Loading.{place_plan}
 use Rattle.rules.specs.Tests.{◌≫=◌, check, in_range}
 use Rattle.store.proofs.store.Store.place.Goals as goal
 
-pub returns-in-err-check-loading : goal.returns-in-err-check-loading
+pub returns-in_err-check_loading : goal.returns-in_err-check_loading
 unfolding place_plan ◌≫=◌ done
-returns-in-err-check-loading g c = search rules
+returns-in_err-check_loading g c = search rules
 
-pub returns-then-not-place-numbers : goal.returns-then-not-place-numbers
+pub returns-then-not-place_numbers : goal.returns-then-not-place_numbers
 unfolding place_plan ◌≫=◌ in_range check done
-returns-then-not-place-numbers g c = search rules
+returns-then-not-place_numbers g c = search rules
 
 pub returns : goal.returns
 unfolding place_plan ◌≫=◌ in_range check

@@ -6,4 +6,4 @@ use Rattle.store.proofs.store.Store.put.Goals as goal
 
 pub returns : goal.returns
 unfolding put overwrite word_bytes state_of
-returns g c = rw (c.write-run.ensures, c.slot-at.ensures, c.to-le-bytes.ensures)
+returns g c = rw (c.write_run.ensures, c.slot_at.ensures, c.to_le_bytes.ensures)

@@ -4,9 +4,9 @@ use Rattle.rules.specs.Loading.{seal_plan}
 use Rattle.rules.specs.Tests.{◌≫=◌}
 use Rattle.store.proofs.store.Store.seal.Goals as goal
 
-pub returns-in-err-check-loading : goal.returns-in-err-check-loading
+pub returns-in_err-check_loading : goal.returns-in_err-check_loading
 unfolding seal_plan ◌≫=◌ done
-returns-in-err-check-loading g c = search rules
+returns-in_err-check_loading g c = search rules
 
 pub returns : goal.returns
 unfolding seal_plan ◌≫=◌ done apply
