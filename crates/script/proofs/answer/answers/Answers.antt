@@ -8,14 +8,14 @@ use Rattle.script.proofs.answer.answers.Goals as goal
 
 pub loop-rest-smaller : goal.loop-rest-smaller
 loop-rest-smaller g c =
-    let others : c.next-line.result.1.now ≡ rest_of (behind 10 c.loop-rest.rest.now) = c.next-line.ensures.others in
+    let others : c.next_line.result.1.now ≡ rest_of (behind 10 c.loop-rest.rest.now) = c.next_line.ensures.others in
     rw others (rest_short c.loop-rest.rest.now (omega arith))
 
 pub loop-rest-preserved : goal.loop-rest-preserved
 loop-rest-preserved g c =
-    let first : c.next-line.result.0.now ≡ before 10 c.loop-rest.rest.now = c.next-line.ensures.first in
-    let others : c.next-line.result.1.now ≡ rest_of (behind 10 c.loop-rest.rest.now) = c.next-line.ensures.others in
-    let printed : vec_items c.extend-from-slice.new.self ≡ vec_items c.loop-rest.out ++ text_of c.answer-reply.result = search rules in
+    let first : c.next_line.result.0.now ≡ before 10 c.loop-rest.rest.now = c.next_line.ensures.first in
+    let others : c.next_line.result.1.now ≡ rest_of (behind 10 c.loop-rest.rest.now) = c.next_line.ensures.others in
+    let printed : vec_items c.extend_from_slice.new.self ≡ vec_items c.loop-rest.out ++ text_of c.answer-reply.result = search rules in
     let answered = rw first at c.answer-reply.ensures in
     rw (printed, others) (turn (vec_items c.loop-rest.out) c.loop-rest.rest.now _ _ c.answer-reply.result (omega arith) answered ∙ c.loop-rest.invariant)
 

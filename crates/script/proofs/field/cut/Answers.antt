@@ -6,8 +6,8 @@ use Rattle.script.proofs.field.cut.Goals as goal
 pub returns-then-at-text : goal.returns-then-at-text
 returns-then-at-text c =
     let l : List ℕ = c.args.text.now in
-    let at : ℕ = c.separator-at-at.result in
-    let f : First c.args.separator l at = record { within = c.separator-at-at.ensures.within; none = c.separator-at-at.ensures.none; found = c.separator-at-at.ensures.found } in
+    let at : ℕ = c.separator_at-at.result in
+    let f : First c.args.separator l at = record { within = c.separator_at-at.ensures.within; none = c.separator_at-at.ensures.none; found = c.separator_at-at.ensures.found } in
     record {
       front = ap (λ (n : ℕ). take n l) (omega arith) ∙ sym (before_is c.args.separator l at f);
       rest = ap Some (take_rest l (at + 1)) ∙ sym (behind_some c.args.separator l at f (omega arith));
@@ -16,8 +16,8 @@ returns-then-at-text c =
 pub returns-else-at-text : goal.returns-else-at-text
 returns-else-at-text c =
     let l : List ℕ = c.args.text.now in
-    let at : ℕ = c.separator-at-at.result in
-    let f : First c.args.separator l at = record { within = c.separator-at-at.ensures.within; none = c.separator-at-at.ensures.none; found = c.separator-at-at.ensures.found } in
+    let at : ℕ = c.separator_at-at.result in
+    let f : First c.args.separator l at = record { within = c.separator_at-at.ensures.within; none = c.separator_at-at.ensures.none; found = c.separator_at-at.ensures.found } in
     record {
       front = sym (before_is c.args.separator l at f ∙ take_all at l (omega arith));
       rest = sym (behind_none c.args.separator l at f (omega arith));

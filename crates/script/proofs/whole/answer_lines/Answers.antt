@@ -11,6 +11,6 @@ all = take_all 65536 (replicate 18432 0) (omega (arith, length-replicate {A = �
 pub returns : goal.returns
 unfolding fresh
 returns c =
-    let zero-bytes : vec_items c.in-ok-memory.memory ≡ replicate 18432 0 = c.in-ok-memory.ensures.items-if-clones-equal (λ y e. e) in
-    let memory : c.new.result.memory.now ≡ replicate 18432 0 = c.new.ensures.value ∙ c.as-mut-slice.ensures.value ∙ zero-bytes in
+    let zero_bytes : vec_items c.in_ok-memory.memory ≡ replicate 18432 0 = c.in_ok-memory.ensures.items_if_clones_equal (λ y e. e) in
+    let memory : c.new.result.memory.now ≡ replicate 18432 0 = c.new.ensures.value ∙ c.as_mut_slice.ensures.value ∙ zero_bytes in
     rw (← all, ← memory, ← c.new-store.ensures) c.answers.ensures
