@@ -1,12 +1,10 @@
 -- The laws of the Hamming code, each by a test that is computed at every byte or at every word.
 -- Assumes nothing.
-use Rattle.std.proofs.Common.{◌≡◌, ℕ, ◌+◌, ◌-◌, ◌*◌, ◌/◌, ◌%◌, ◌^◌, ◌<◌, ◌≤◌, Bool, true, false, cond, ◌&&◌, eqb, ltb, List, length, get_or, sym, refl, ap, ◌∙◌, subst, arith}
-use lib.Bits.{bit_xor}
+use Rattle.std.proofs.Common.{◌≡◌, ℕ, ◌+◌, ◌-◌, ◌<◌, ◌≤◌, Bool, true, cond, ◌&&◌, eqb, ltb, sym, refl, ◌∙◌, subst, arith}
 use Rattle.std.specs.List.{range_with_len}
 use Rattle.std.proofs.lemmas.Bool.{cond-true, eqb-true, ltb-true}
-use Rattle.std.proofs.lemmas.Bool.Decides.{nat_tests}
 use Rattle.hamming.specs.Code.{every, codes, code_word, decoded, syndrome, data_bits, turned, gathered, data_positions, even}
-use Rattle.hamming.proofs.Computed.{at_each, below}
+use Rattle.hamming.proofs.Computed.{below}
 
 ends : (p q r s t u : Bool) → (p && q && r && s && t && u) ≡ true → (p ≡ true) × (u ≡ true)
 ends p q r s t u e = grind arith

@@ -8,7 +8,7 @@ use Rattle.bank.specs.Runs.{read_run, write_run}
 use Rattle.bank.specs.Units.{used}
 use Rattle.bank.proofs.RunLaws.{write_run_whole, read_run_whole}
 use Rattle.bank.proofs.UnitLaws.{used_all}
-use Rattle.hamming.specs.Code.{code_word, decoded, turned}
+use Rattle.hamming.specs.Code.{code_word, decoded}
 use Rattle.hamming.proofs.Corrects.{word_back, upset_back}
 use Rattle.magnetometer.specs.Upsets.{upset}
 

@@ -1,12 +1,9 @@
 -- What calls do to a store once all their tests have passed. Assumes nothing.
-use Rattle.std.specs.Prelude.{ℕ, ◌+◌, ◌-◌, ◌*◌, Bool, true, List, [], ◌∷◌, ◌++◌, length, take, replicate, Some, None, Ok, Err, Option, Result, slice_set}
+use Rattle.std.specs.Prelude.{ℕ, ◌+◌, ◌-◌, ◌*◌, true, List, [], ◌∷◌, ◌++◌, length, take, replicate, Ok, Err, Result, slice_set}
 use Rattle.bank.specs.Runs.{write_run}
 use Rattle.rules.specs.declared.entry.Entry.{Entry}
 use Rattle.rules.specs.declared.entry.Entry.TheVariants.{Object}
-use Rattle.rules.specs.declared.entry.Storage.{Storage}
 use Rattle.rules.specs.declared.fault.Fault.{Fault}
-use Rattle.rules.specs.declared.shown.Descriptor.{Descriptor}
-use Rattle.rules.specs.declared.shown.Shown.{Shown}
 use Rattle.rules.specs.State.{State, Table, Place, table, stack, level, shown, slot_at, block_start, takes, word_bytes, encode}
 
 -- the bytes from an address on replaced

@@ -1,12 +1,12 @@
 -- The six load calls. Assumes nothing.
-use Rattle.std.specs.Prelude.{ℕ, ◌+◌, ◌*◌, Bool, true, false, not, ◌&&◌, ◌||◌, List, length, Some, None, Ok, Err, Option, Result, ◌==◌, nat_le, nat_lt}
+use Rattle.std.specs.Prelude.{ℕ, ◌*◌, Bool, true, false, not, ◌&&◌, ◌||◌, List, length, Some, None, Ok, Option, Result, ◌==◌, nat_le, nat_lt}
 use Rattle.rules.specs.declared.entry.Entry.{Entry}
 use Rattle.rules.specs.declared.entry.Entry.TheVariants.{Object, Control, Refined}
 use Rattle.rules.specs.declared.fault.Fault.{Fault}
-use Rattle.rules.specs.declared.fault.Reason.TheVariants.{NoTask, WrongType, OutOfRange}
-use Rattle.rules.specs.State.{State, Place, table, level, entry, shown, byte_at, slot_at, kind_of, encode, takes}
-use Rattle.rules.specs.Tests.{◌≫=◌, check, some, refusal, loading, in_range, fits, room}
-use Rattle.rules.specs.Effects.{Effect, Planned, keep, put_word, write_bytes, add_entry, start_task, seal, new_object, next_index}
+use Rattle.rules.specs.declared.fault.Reason.TheVariants.{NoTask, WrongType}
+use Rattle.rules.specs.State.{State, level, entry, shown, byte_at, kind_of, encode, takes}
+use Rattle.rules.specs.Tests.{◌≫=◌, check, refusal, loading, in_range, fits, room}
+use Rattle.rules.specs.Effects.{Planned, put_word, write_bytes, add_entry, start_task, seal, new_object, next_index}
 
 -- types that users give
 abbrev pub user_kind : ℕ → Bool

@@ -1,5 +1,5 @@
 -- The thirteen operators. Each names its task first; operands are selectors. Assumes nothing.
-use Rattle.std.specs.Prelude.{ℕ, ◌+◌, ◌*◌, Bool, true, false, not, ◌&&◌, List, [], ◌∷◌, length, Some, None, Ok, Err, Option, Result, ◌==◌, bit_and, bit_or, nat_le, nat_lt}
+use Rattle.std.specs.Prelude.{ℕ, ◌+◌, ◌*◌, Bool, true, false, ◌&&◌, List, [], ◌∷◌, length, Some, None, Ok, Option, Result, ◌==◌, bit_and, bit_or, nat_le, nat_lt}
 use Rattle.bank.specs.Runs.{read_run}
 use Rattle.rules.specs.declared.entry.Entry.{Entry}
 use Rattle.rules.specs.declared.entry.Entry.TheVariants.{Object, Control, Refined}
@@ -7,9 +7,9 @@ use Rattle.rules.specs.declared.fault.Fault.{Fault}
 use Rattle.rules.specs.declared.fault.Reason.TheVariants.{NoLevel, WrongType, NotDeletable, StoringRule}
 use Rattle.rules.specs.declared.shown.Descriptor.{Descriptor}
 use Rattle.rules.specs.declared.shown.Shown.{Shown}
-use Rattle.rules.specs.State.{State, Place, table, stack, level, entry, named, shown, byte_at, held, encode, read, write, type1, type2}
+use Rattle.rules.specs.State.{State, Place, stack, level, entry, named, shown, byte_at, held, encode, read, write, type1, type2}
 use Rattle.rules.specs.Tests.{◌≫=◌, check, some, refusal, refusal_at, operator, source_or_null, source, source_with, control, destination, overwritable, in_range, fits, storable, room, level_by, kind_by}
-use Rattle.rules.specs.Effects.{Effect, Planned, keep, put_word, write_bytes, add_named, open_context, close_context, new_object, next_index}
+use Rattle.rules.specs.Effects.{Planned, keep, put_word, write_bytes, add_named, open_context, close_context, new_object}
 
 -- a descriptor of the same entry with other rights
 abbrev pub with_rights : ℕ → Descriptor → Descriptor

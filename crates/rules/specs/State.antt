@@ -5,7 +5,6 @@ use Rattle.rules.specs.declared.entry.Entry.{Entry}
 use Rattle.rules.specs.declared.entry.Entry.TheVariants.{Object, Control, Refined}
 use Rattle.rules.specs.declared.entry.Storage.{Storage}
 use Rattle.rules.specs.declared.entry.Refinement.{Refinement}
-use Rattle.rules.specs.declared.entry.TypeControl.{TypeControl}
 use Rattle.rules.specs.declared.shown.Descriptor.{Descriptor}
 use Rattle.rules.specs.declared.shown.Shown.{Shown}
 

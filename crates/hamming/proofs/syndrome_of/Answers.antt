@@ -1,5 +1,4 @@
-use Rattle.std.proofs.Common.{◌≡◌, ℕ, ◌+◌, arith}
-use Rattle.hamming.specs.Code.{syndrome}
+use Rattle.std.proofs.Common.{◌+◌, arith}
 use Rattle.hamming.proofs.Syndromes.{Left, left_none, left_all, left_one, left_zero}
 use Rattle.hamming.proofs.syndrome_of.Goals as goal
 use Rattle.hamming.proofs.syndrome_of.Goals.{then-word-k-eq1, else-word-k-eq1}

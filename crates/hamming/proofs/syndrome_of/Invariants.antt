@@ -1,4 +1,4 @@
-use Rattle.std.proofs.Common.{◌≡◌, ℕ}
+use Rattle.std.proofs.Common.{◌≡◌}
 use Rattle.hamming.specs.Code.{syndrome}
 use Rattle.hamming.proofs.Syndromes.{Left}
 use Rattle.hamming.proofs.syndrome_of.Given as goal

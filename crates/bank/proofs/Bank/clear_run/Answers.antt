@@ -1,4 +1,4 @@
-use Rattle.std.proofs.Common.{◌≡◌, ℕ, List, sym, ◌∙◌, arith}
+use Rattle.std.proofs.Common.{ℕ, List, sym, ◌∙◌, arith}
 use Rattle.bank.proofs.RunLaws.{write_run_none, zeros_more, zeros_inside}
 use Rattle.bank.proofs.Bank.clear_run.Goals as goal
 

@@ -1,4 +1,4 @@
-use Rattle.std.proofs.Common.{◌≡◌, ℕ, ◌+◌, List, get_or, set, sym, ap, ◌∙◌, arith}
+use Rattle.std.proofs.Common.{ℕ, List, sym, ◌∙◌, arith}
 use Rattle.bank.proofs.RunLaws.{write_run_none, write_run_more, write_run_inside}
 use Rattle.bank.proofs.Bank.write_run.Goals as goal
 

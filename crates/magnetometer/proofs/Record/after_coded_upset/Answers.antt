@@ -1,9 +1,8 @@
-use Rattle.std.proofs.Common.{◌≡◌, ℕ, ◌<◌, List, map, length, get_or, sym, ap, ◌∙◌, arith, rules}
+use Rattle.std.proofs.Common.{◌≡◌, ℕ, ◌<◌, List, map, length, get_or, ap, ◌∙◌, arith, rules}
 use Rattle.std.proofs.lemmas.List.{length-map}
 use Rattle.bank.specs.Units.{used}
 use Rattle.bank.proofs.UnitLaws.{used_all}
 use Rattle.hamming.specs.Code.{code_word, decoded}
-use Rattle.magnetometer.specs.Bytes.{record_bytes}
 use Rattle.magnetometer.specs.Upsets.{upset}
 use Rattle.magnetometer.proofs.Halves.{same_record}
 use Rattle.magnetometer.proofs.Survives.{stored, loaded, survived}

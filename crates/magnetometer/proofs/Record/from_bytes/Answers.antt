@@ -1,4 +1,4 @@
-use Rattle.std.proofs.Common.{◌≡◌, ℕ, ◌<◌, List, length, get_or, sym, ◌∙◌, arith, rules}
+use Rattle.std.proofs.Common.{◌≡◌, ℕ, ◌<◌, List, length, get_or, sym, rules}
 use Rattle.magnetometer.proofs.Halves.{joined, six}
 use Rattle.magnetometer.proofs.Record.from_bytes.Goals as goal
 

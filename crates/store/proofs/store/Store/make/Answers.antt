@@ -1,8 +1,5 @@
-use Rattle.std.proofs.Common.{◌≡◌, ℕ, ◌+◌, ◌*◌, ◌<◌, Bool, true, false, List, Some, None, sym, refl, ap, ◌∙◌, arith, rules}
-use Rattle.rules.specs.declared.entry.Entry.{Entry}
-use Rattle.rules.specs.declared.entry.Entry.TheVariants.{Object}
-use Rattle.rules.specs.State.{State, table, takes}
-use Rattle.rules.specs.Tests.{◌≫=◌, check, has_room, room}
+use Rattle.std.proofs.Common.{◌≡◌, ℕ, ◌<◌, List, arith}
+use Rattle.rules.specs.Tests.{◌≫=◌, check, room}
 use Rattle.rules.specs.Effects.{done, new_object}
 use Rattle.rules.specs.Loading.{adding, making}
 use Rattle.tables.specs.declared.directory.Directory.{Directory}

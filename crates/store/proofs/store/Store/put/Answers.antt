@@ -1,4 +1,3 @@
-use Rattle.std.proofs.Common.{rules}
 use Rattle.rules.specs.Effects.{overwrite, put}
 use Rattle.rules.specs.State.{word_bytes}
 use Rattle.tables.specs.Live.{state_of}

@@ -1,5 +1,4 @@
-use Rattle.std.proofs.Common.{◌≡◌, ℕ, List, Ok, Err, Result, sym, ap, ◌∙◌, arith, rules}
-use Rattle.rules.specs.declared.fault.Fault.{Fault}
+use Rattle.std.proofs.Common.{◌≡◌, ℕ, List, Err, arith, rules}
 use Rattle.rules.specs.State.{State}
 use Rattle.tables.specs.Live.{state_of}
 use Rattle.store.proofs.Starts.{started, not_started}

@@ -1,4 +1,4 @@
-use Rattle.std.proofs.Common.{ℕ, List, rules}
+use Rattle.std.proofs.Common.{rules}
 use Rattle.rules.specs.Effects.{done}
 use Rattle.rules.specs.Loading.{task_plan}
 use Rattle.rules.specs.Tests.{◌≫=◌, check, in_range}

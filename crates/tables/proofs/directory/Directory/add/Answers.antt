@@ -1,9 +1,9 @@
-use Rattle.std.proofs.Common.{◌≡◌, ℕ, ◌<◌, Bool, true, false, cond, ltb, length, get_or, set, Some, None, sym, refl, ap, ◌∙◌, arith, rules}
+use Rattle.std.proofs.Common.{◌≡◌, ℕ, ◌<◌, false, ltb, refl, ap, ◌∙◌, arith}
 use Rattle.std.proofs.lemmas.Bool.{le-ltb}
-use Rattle.rules.specs.State.{Table as Listed, table, takes}
+use Rattle.rules.specs.State.{Table as Listed}
 use Rattle.rules.specs.Effects.{with_table}
 use Rattle.tables.specs.declared.table.Table.{Table}
-use Rattle.tables.specs.Live.{can_add, state_of, table_of}
+use Rattle.tables.specs.Live.{can_add, state_of}
 use Rattle.tables.proofs.States.{table_at, tables_set, can_add_lem, added}
 use Rattle.tables.proofs.directory.Directory.add.Goals as goal
 

@@ -1,4 +1,3 @@
-use Rattle.std.proofs.Common.{◌≡◌, refl, rules}
 use Rattle.rules.specs.State.{empty}
 use Rattle.tables.specs.Live.{state_of}
 use Rattle.tables.proofs.directory.Directory.new.Goals as goal

@@ -1,4 +1,4 @@
-use Rattle.std.proofs.Common.{arith, rules}
+use Rattle.std.proofs.Common.{rules}
 use Rattle.tables.proofs.Takes.{nth_inside, nth_beyond}
 use Rattle.tables.proofs.table.Table.entry.Goals as goal
 
