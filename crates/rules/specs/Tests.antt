@@ -120,7 +120,7 @@ fits first n there = nat_le (first + n) there
 
 -- 13: a descriptor may be stored only in an object whose level is at least that of the entry named
 unfoldable pub storable : ℕ → Place → ℕ → Result (Unit {0}) Fault
-storable entryLevel l q = check (nat_le entryLevel l.by.level) (refusal StoringRule q)
+storable entry_level l q = check (nat_le entry_level l.by.level) (refusal StoringRule q)
 
 abbrev pub level_by : Option Entry → ℕ
 level_by (Some e) = level_of e

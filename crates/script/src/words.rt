@@ -1,12 +1,12 @@
 // Which word a field is.
-ghost use Rattle.script.specs.Words.{same as sameText, word_of};
+ghost use Rattle.script.specs.Words.{same as same_text, word_of};
 ghost use Rattle.std.specs.Prelude.{◌≡◌};
 
 use crate::word::Word;
 
 // Whether two texts are the same.
 pub(crate) fn same(a: &[u8], b: &[u8]) -> bool
-    ensures { result ≡ sameText a.now b.now }
+    ensures { result ≡ same_text a.now b.now }
 {
     if a.len() != b.len() {
         return false;

@@ -1,7 +1,7 @@
 // What a directory answers, and how it changes.
 ghost use Rattle.std.specs.Prelude.{◌≡◌, ℕ, ◌+◌, ◌<◌, ◌≤◌, true, false, ◌&&◌, List, ◌∷◌, IfSome, if◌then◌else◌, Some, None, OnSome, nat_lt};
 ghost use Rattle.rules.specs.Effects.{grown, next_index, sealing, with_stack, with_table};
-ghost use Rattle.rules.specs.State.{block_start, empty, entry as entry_at, level as level_of, part, shown as shownAt, shown_by, stack as stackAt, table as table_at};
+ghost use Rattle.rules.specs.State.{block_start, empty, entry as entry_at, level as level_of, part, shown as shown_at, shown_by, stack as stack_at, table as table_at};
 ghost use Rattle.tables.specs.Live.{can_add, can_enter, state_of};
 
 use crate::directory::Directory;
@@ -38,7 +38,7 @@ impl Directory {
 
     // What an entry shows.
     pub fn shown(&self, table: u32, index: u32) -> Shown
-        ensures { (l : List ℕ) → result ≡ shownAt (state_of self.now l) table index }
+        ensures { (l : List ℕ) → result ≡ shown_at (state_of self.now l) table index }
     {
         self.show(table, index)
     }
@@ -103,7 +103,7 @@ impl Directory {
 
     // Opens a context of a task, if there is such a task and a level for it.
     pub fn enter(&mut self, task: u32, index: u32)
-        ensures { (l : List ℕ) → state_of self.new l ≡ (if can_enter (state_of self.old l) task then with_stack task (index ∷ stackAt (state_of self.old l) task) (state_of self.old l) else state_of self.old l) }
+        ensures { (l : List ℕ) → state_of self.new l ≡ (if can_enter (state_of self.old l) task then with_stack task (index ∷ stack_at (state_of self.old l) task) (state_of self.old l) else state_of self.old l) }
     {
         if task >= TABLES {
             return;
