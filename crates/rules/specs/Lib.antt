@@ -1,4 +1,5 @@
 pub mod State
+pub mod Code
 pub mod Tests
 pub mod Effects
 pub mod Faults

@@ -1,10 +1,31 @@
-// What an entry takes of its table's block.
-ghost use Rattle.rules.specs.State.{takes};
+// What an entry is: its type, its level, and what it takes of its table's block.
+ghost use Rattle.rules.specs.State.{kind_of, level_of, takes};
 ghost use Rattle.std.specs.Prelude.{◌≡◌};
 
 use crate::entry::Entry;
 
 impl Entry {
+    // The type of an entry.
+    pub fn kind(&self) -> u8
+        ensures { result ≡ kind_of self.now }
+    {
+        match self {
+            Entry::Object(o) => o.kind,
+            Entry::Control(_) => 2,
+            Entry::Refined(_) => 0,
+        }
+    }
+
+    pub fn level(&self) -> u8
+        ensures { result ≡ level_of self.now }
+    {
+        match self {
+            Entry::Object(o) => o.level,
+            Entry::Control(_) => 0,
+            Entry::Refined(r) => r.level,
+        }
+    }
+
     // How many bytes of its block an entry takes.
     pub fn takes(&self) -> u32
         ensures { result ≡ takes self.now }

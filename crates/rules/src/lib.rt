@@ -6,4 +6,6 @@ mod extent;
 pub mod fault;
 mod numbers;
 mod places;
+pub mod right;
+mod rights;
 pub mod shown;

@@ -50,7 +50,7 @@ impl Shown {
             bytes: refinement.bytes,
             slot: refinement.slot,
             slots: refinement.slots,
-            level: object.level,
+            level: object.level, // where something is stored, the object beneath counts
         }
     }
 

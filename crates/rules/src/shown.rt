@@ -20,3 +20,10 @@ pub struct Descriptor {
     pub index: u16,
     pub rights: u8,
 }
+
+// A slot: what shows it, and its number there.
+#[derive(Clone, Copy)]
+pub struct Place {
+    pub by: Shown,
+    pub at: u16,
+}
