@@ -1,3 +1,4 @@
 pub mod Space
 pub mod States
 pub mod Takes
+pub mod Stacks

@@ -1,7 +1,7 @@
 -- The parts of the state that a directory stands for.
 -- Assumes nothing.
 use Rattle.std.proofs.Common.{◌≡◌, ℕ, ◌<◌, ◌≤◌, Bool, true, false, cond, ltb, List, [], map, length, get_or, set, refl, ap, ◌∙◌, arith}
-use Rattle.std.proofs.lemmas.List.{get_or-map, get_or_past, length-map, map-set, set-get_or}
+use Rattle.std.proofs.lemmas.List.{get_or-map, get_or_past, length-map, map-set, set-get_or, set_past}
 use Rattle.std.proofs.lemmas.Bool.{lt-ltb}
 use Rattle.rules.specs.declared.entry.Entry.{Entry}
 use Rattle.rules.specs.State.{State, Table as Listed, table, stack, level, no_table, takes}
@@ -59,3 +59,17 @@ stacks_set d e l q y a b c = rw (a, b, c, map-set stack_of d.stacks q y)
 pub can_enter_lem : (d : Directory) (l : List ℕ) (q : ℕ) (x : Stack) → q < 9 → can_enter (state_of d l) q ≡ ltb (length (stack_of (get_or d.stacks q x))) 8
 unfolding can_enter level
 can_enter_lem d l q x h = rw (lt-ltb q 9 h, stack_at d l q x h)
+
+-- nothing is replaced at or beyond the ninth place, and what is not open is not closed
+module _ (d : Directory) (l : List ℕ) where
+  pub with_table_past : (t : ℕ) (x : Listed) → 9 ≤ t → with_table t x (state_of d l) ≡ state_of d l
+  unfolding with_table state_of
+  with_table_past t x h = rw (set_past (map table_of d.tables) t x (rw length-map (omega (arith, d.nine))))
+
+  pub no_stack : (q : ℕ) (cs : List ℕ) → 9 ≤ q → with_stack q cs (state_of d l) ≡ state_of d l
+  unfolding with_stack state_of
+  no_stack q cs h = rw (set_past (map stack_of d.stacks) q cs (rw length-map (omega (arith, d.each))))
+
+pub same_stack : (s : State) (q : ℕ) → with_stack q (stack s q) s ≡ s
+unfolding with_stack stack
+same_stack s q = rw (set-get_or s.stacks q [])

@@ -1,6 +1,6 @@
 -- What the structs of the store stand for. Assumes nothing.
-use Rattle.std.specs.Prelude.{ℕ, Bool, ◌&&◌, List, map, reverse, take, nat_lt}
-use Rattle.rules.specs.State.{State, Table as Listed, level, table, takes}
+use Rattle.std.specs.Prelude.{ℕ, ◌-◌, ◌*◌, Bool, ◌&&◌, List, map, reverse, take, nat_le, nat_lt}
+use Rattle.rules.specs.State.{State, Table as Listed, block_start, level, shown, table, takes}
 use Rattle.rules.specs.Tests.{has_room}
 use Rattle.rules.specs.declared.entry.Entry.{Entry}
 use Rattle.tables.specs.declared.directory.Directory.{Directory}
@@ -26,3 +26,11 @@ can_add s t e = nat_lt t 9 && has_room (table s t) (takes e)
 -- there are such a task and a level for one context more
 unfoldable pub can_enter : State → ℕ → Bool
 can_enter s q = nat_lt q 9 && nat_lt (level s q) 8
+
+-- how many bytes of a task's block lie before the first byte of what an entry of its table shows
+abbrev pub bytes_before : State → ℕ → ℕ → ℕ
+bytes_before s q c = (shown s q c).base - 4 * (shown s q c).slots - block_start q
+
+-- those bytes lie in the block
+unfoldable pub can_leave : State → ℕ → ℕ → Bool
+can_leave s q c = nat_le (bytes_before s q c) 2048

@@ -1,5 +1,8 @@
 // What a stack of contexts answers, and how it grows.
 ghost use Rattle.std.specs.Prelude.{◌≡◌, ◌<◌, [], ◌∷◌, length};
+ghost use Rattle.rules.specs.Effects.{popped};
+ghost use Rattle.rules.specs.Operators.{calling as calling_of};
+ghost use Rattle.rules.specs.Tests.{current as current_of};
 ghost use Rattle.tables.specs.Live.{stack_of};
 
 use crate::stack::Stack;
@@ -26,5 +29,33 @@ impl Stack {
     {
         self.contexts[self.level] = index;
         self.level += 1;
+    }
+
+    // The context that was opened last.
+    pub(crate) fn current(&self) -> Option<u32>
+        ensures { result ≡ current_of (stack_of self.now) }
+    {
+        if self.level == 0 {
+            return None;
+        }
+        Some(self.contexts[self.level - 1])
+    }
+
+    // The context from which the current one was called.
+    pub(crate) fn calling(&self) -> Option<u32>
+        ensures { result ≡ calling_of (stack_of self.now) }
+    {
+        if self.level < 2 {
+            return None;
+        }
+        Some(self.contexts[self.level - 2])
+    }
+
+    // Closes the current context.
+    pub(crate) fn pop(&mut self)
+        requires { 0 < length (stack_of self.old) }
+        ensures { stack_of self.new ≡ popped (stack_of self.old) }
+    {
+        self.level -= 1;
     }
 }

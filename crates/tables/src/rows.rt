@@ -1,5 +1,5 @@
 // What a table answers, and how it grows and shrinks.
-ghost use Rattle.std.specs.Prelude.{◌≡◌, ◌+◌, ◌<◌, ◌≤◌, [], ◌∷◌, ◌++◌, length, if◌then◌else◌, Some, None, OnSome};
+ghost use Rattle.std.specs.Prelude.{◌≡◌, ◌+◌, ◌<◌, ◌≤◌, [], ◌∷◌, ◌++◌, length, if◌then◌else◌, take, IfSome, Some, None, OnSome};
 ghost use Rattle.rules.specs.Effects.{grown};
 ghost use Rattle.rules.specs.State.{no_table, takes};
 ghost use Rattle.rules.specs.Tests.{has_room};
@@ -37,6 +37,13 @@ impl Table {
         }
     }
 
+    // How many entries there are.
+    pub(crate) fn len(&self) -> usize
+        ensures { result ≡ length (table_of self.now).entries }
+    {
+        self.count
+    }
+
     // Whether there is room for one entry more, with this many bytes.
     fn has_room(&self, bytes: u32) -> bool
         ensures { result ≡ has_room (table_of self.now) bytes }
@@ -56,7 +63,8 @@ impl Table {
 
     // The index of the next entry, if there is room for it with this many bytes.
     pub(crate) fn next_index(&self, bytes: u32) -> Option<u32>
-        ensures { result ≡ (if has_room (table_of self.now) bytes then Some (length (table_of self.now).entries) else None) }
+        ensures value { result ≡ (if has_room (table_of self.now) bytes then Some (length (table_of self.now).entries) else None) }
+        ensures bound { IfSome result (λ i. i < 64) }
     {
         if self.has_room(bytes) {
             Some(self.count as u32)
@@ -73,5 +81,13 @@ impl Table {
         if self.has_room(bytes) {
             self.push(entry, bytes);
         }
+    }
+    // Keeps the first entries, and sets how many bytes are taken.
+    pub(crate) fn cut(&mut self, count: usize, claim: u32)
+        requires { (count ≤ length (table_of self.old).entries) × (claim ≤ 2048) }
+        ensures { table_of self.new ≡ record { entries = take count (table_of self.old).entries; claim = claim } }
+    {
+        self.count = count;
+        self.claim = claim;
     }
 }
