@@ -42,13 +42,15 @@ impl Directory {
 
     // What an entry shows.
     pub fn shown(&self, table: u32, index: u32) -> Shown
-        ensures { (l : List ℕ) → result ≡ shown_at (state_of self.now l) table index }
+        ensures value { (l : List ℕ) → result ≡ shown_at (state_of self.now l) table index }
+        ensures named { (result.owner < 256) × (result.object < 256) }
     {
         self.show(table, index)
     }
 
     fn show(&self, table: u32, index: u32) -> Shown
-        ensures { (l : List ℕ) → result ≡ shown_by (state_of self.now l) table index (entry_at (state_of self.now l) table index) }
+        ensures value { (l : List ℕ) → result ≡ shown_by (state_of self.now l) table index (entry_at (state_of self.now l) table index) }
+        ensures named { (result.owner < 256) × (result.object < 256) }
     {
         match self.entry(table, index) {
             Some(Entry::Object(o)) => Shown::whole(table, index, o),
@@ -59,7 +61,8 @@ impl Directory {
     }
 
     fn refined(&self, r: Refinement) -> Shown
-        ensures { (l : List ℕ) → result ≡ part r (entry_at (state_of self.now l) r.table r.index) }
+        ensures value { (l : List ℕ) → result ≡ part r (entry_at (state_of self.now l) r.table r.index) }
+        ensures named { (result.owner < 256) × (result.object < 256) }
     {
         match self.entry(r.table as u32, r.index as u32) {
             Some(Entry::Object(o)) => Shown::part(r, o),

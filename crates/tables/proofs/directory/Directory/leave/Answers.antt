@@ -14,7 +14,7 @@ pub returns-then-claim-gt-BLOCK : goal.returns-then-claim-gt-BLOCK
 unfolding can_leave
 returns-then-claim-gt-BLOCK c l =
     let s : State = state_of c.args.self.now l in
-    let before : c.bytes_before-claim.result ≡ bytes_before s c.args.task c.args.context = c.bytes_before-claim.ensures ∙ ap (λ (v : Shown). v.base - 4 * v.slots - 2048 * c.args.task) (c.shown.ensures l) in
+    let before : c.bytes_before-claim.result ≡ bytes_before s c.args.task c.args.context = c.bytes_before-claim.ensures ∙ ap (λ (v : Shown). v.base - 4 * v.slots - 2048 * c.args.task) (c.shown.ensures.value l) in
     let beyond : leb (bytes_before s c.args.task c.args.context) 2048 ≡ false = lt-leb _ _ (omega (arith, before)) in
     rw beyond
 
@@ -23,7 +23,7 @@ unfolding leave can_leave
 returns c l =
     let s : State = state_of c.args.self.now l in
     let q : ℕ = c.args.task in
-    let before : c.bytes_before-claim.result ≡ bytes_before s q c.args.context = c.bytes_before-claim.ensures ∙ ap (λ (v : Shown). v.base - 4 * v.slots - 2048 * q) (c.shown.ensures l) in
+    let before : c.bytes_before-claim.result ≡ bytes_before s q c.args.context = c.bytes_before-claim.ensures ∙ ap (λ (v : Shown). v.base - 4 * v.slots - 2048 * q) (c.shown.ensures.value l) in
     let within : leb (bytes_before s q c.args.context) 2048 ≡ true = le-leb _ _ (omega (arith, before)) in
     let cut = c.cut.ensures l ∙ ap (λ (n : ℕ). with_table q (record { entries = take c.args.context (table s q).entries; claim = n }) s) before in
     rw within (c.pop.ensures l ∙ ap (λ (x : State). with_stack q (popped (stack x q)) x) cut ∙ rw (stack_kept s q q _))

@@ -3,4 +3,4 @@ use Rattle.tables.proofs.directory.Directory.shown.Goals as goal
 
 pub returns : goal.returns
 unfolding shown
-returns c l = c.show.ensures l
+returns c = record { value = λ l. c.show.ensures.value l; named = c.show.ensures.named }
