@@ -5,8 +5,7 @@ use Rattle.std.proofs.lemmas.Bool.{lt-ltb}
 use Rattle.bank.specs.Runs.{write_run}
 use Rattle.bank.proofs.RunLaws.{write_run_none}
 use Rattle.rules.specs.declared.entry.Entry.{Entry}
-use Rattle.rules.specs.declared.entry.Entry.TheVariants.{Control, Object}
-use Rattle.rules.specs.declared.entry.TypeControl.{TypeControl}
+use Rattle.rules.specs.declared.entry.Entry.TheVariants.{Object}
 use Rattle.rules.specs.declared.fault.Fault.{Fault}
 use Rattle.rules.specs.State.{State, table, takes, block_start}
 use Rattle.rules.specs.Tests.{◌≫=◌, check, has_room, room}
@@ -70,10 +69,10 @@ made d d' l l' t n k kind lvl q i a b m e f h c x =
     subst (λ (o : ℕ). Added d d' l t i (Object (record { base = o; bytes = n; slots = k; kind = kind; level = lvl }))) (f ∙ ap (λ (z : ℕ). z + 4 * k) e) x in
     rw (c, h, e, y.has, y.index) (answered (next_index s t) y.after)
 
--- a type control made, which takes no bytes
-pub controlled : (d d' : Directory) (l : List ℕ) (t i q : ℕ) (c : TypeControl) → Added d d' l t i (Control c) → ◌≡◌ {A = Result ℕ Fault × State} (Ok i, state_of d' l) (done (state_of d l) (adding (state_of d l) t (Control c) q))
+-- an entry made that takes no bytes
+pub taken : (d d' : Directory) (l : List ℕ) (t i q : ℕ) (e : Entry) → takes e ≡ 0 → Added d d' l t i e → ◌≡◌ {A = Result ℕ Fault × State} (Ok i, state_of d' l) (done (state_of d l) (adding (state_of d l) t e q))
 unfolding adding room ◌≫=◌ check done apply state_of
-controlled d d' l t i q c x =
+taken d d' l t i q e none x =
     let s : State = state_of d l in
-    let same : write_run l (next_byte s t) [] ≡ l = write_run_none l (next_byte s t) in
+    let same : cleared s t e ≡ l = ap (λ (n : ℕ). write_run l (next_byte s t) (replicate n 0)) none ∙ write_run_none l (next_byte s t) in
     rw (x.has, x.index) (answered (next_index s t) (ap (state_of d') (sym same) ∙ x.after))

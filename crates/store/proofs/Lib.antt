@@ -1,2 +1,4 @@
 pub mod Additions
+pub mod Orders
+pub mod Outcomes
 pub mod Starts

@@ -1,5 +1,5 @@
 // The load calls.
-ghost use Rattle.std.specs.Prelude.{◌≡◌, ◌+◌, ◌*◌, ◌<◌, ◌≤◌};
+ghost use Rattle.std.specs.Prelude.{IfOk, ◌≡◌, ◌+◌, ◌*◌, ◌<◌, ◌≤◌};
 ghost use Rattle.rules.specs.Effects.{done};
 ghost use Rattle.rules.specs.Loading.{adding, control_plan, fill_plan, grant_plan, making, place_plan, seal_plan, starting, task_plan};
 ghost use Rattle.rules.specs.State.{empty, level as level_of};
@@ -15,10 +15,10 @@ use rules::fault::{Fault, Reason};
 use rules::shown::Descriptor;
 use tables::directory::Directory;
 
-const SMALLEST_BANK: u32 = 18432;
+pub(crate) const SMALLEST_BANK: u32 = 18432;
 
 // A fault of no operand.
-fn refusal_of(reason: Reason, task: u32) -> Fault
+pub(crate) fn refusal_of(reason: Reason, task: u32) -> Fault
     ensures { result ≡ refusal reason task }
 {
     Fault {
@@ -30,7 +30,7 @@ fn refusal_of(reason: Reason, task: u32) -> Fault
 }
 
 // A test, or the fault of its failing.
-fn demand(holds: bool, reason: Reason, task: u32) -> Result<(), Fault>
+pub(crate) fn demand(holds: bool, reason: Reason, task: u32) -> Result<(), Fault>
     ensures { result ≡ check holds (refusal reason task) }
 {
     if holds {
@@ -76,7 +76,7 @@ impl<B: Bank> Store<B> {
     }
 
     // Makes a storage object in a table, all its bytes 0, and answers its index.
-    fn make(
+    pub(crate) fn make(
         &mut self,
         table: u32,
         size: u32,
@@ -86,7 +86,8 @@ impl<B: Bank> Store<B> {
         task: u32,
     ) -> Result<u32, Fault>
         requires { (table < 9) × ((size ≤ 2048) × (slots ≤ 512)) }
-        ensures { (result, state_of self.new.directory (B.bytes self.new.bank)) ≡ done (state_of self.old.directory (B.bytes self.old.bank)) (making (state_of self.old.directory (B.bytes self.old.bank)) table size slots kind level task) }
+        ensures bound { IfOk result (λ i. i < 64) }
+        ensures value { (result, state_of self.new.directory (B.bytes self.new.bank)) ≡ done (state_of self.old.directory (B.bytes self.old.bank)) (making (state_of self.old.directory (B.bytes self.old.bank)) table size slots kind level task) }
     {
         let Some(start) = self.directory.start(table) else {
             return Err(refusal_of(Reason::NoRoom, task));
@@ -146,9 +147,7 @@ impl<B: Bank> Store<B> {
         requires { (number < 9) × ((slots ≤ 64) × (level_of (state_of self.old.directory (B.bytes self.old.bank)) number ≡ 0)) }
         ensures { (result, state_of self.new.directory (B.bytes self.new.bank)) ≡ done (state_of self.old.directory (B.bytes self.old.bank)) (starting (state_of self.old.directory (B.bytes self.old.bank)) number slots) }
     {
-        let index = self.make(number, 0, slots, 1, 1, number)?;
-        self.directory.enter(number, index);
-        Ok(index)
+        self.open(number, slots, 0)
     }
 
     // Makes the first context of a task and answers its index.

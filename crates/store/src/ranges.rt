@@ -1,9 +1,12 @@
 // The ranges of the numbers that calls take.
 ghost use Rattle.std.specs.Prelude.{◌≡◌, ◌+◌, ◌&&◌, ◌||◌, ◌==◌, nat_le, nat_lt};
 ghost use Rattle.rules.specs.Loading.{exists, holds, nameable, user_kind};
-ghost use Rattle.rules.specs.Tests.{fits};
+ghost use Rattle.rules.specs.Operators.{has_parts};
+ghost use Rattle.rules.specs.Tests.{fits, kind_by, level_by, overwritable};
 
 use rules::entry::Entry;
+use rules::right::Right;
+use rules::shown::{Descriptor, Shown};
 
 fn is_user_kind(kind: u32) -> bool
     ensures { result ≡ user_kind kind }
@@ -89,4 +92,64 @@ pub(crate) fn fill_numbers(target: Option<Entry>, offset: u32, count: usize, byt
         Some(_) => run_fits(offset, count, bytes),
         None => false,
     }
+}
+
+// The data bytes and slots of a new object.
+pub(crate) fn object_numbers(size: u32, slots: u32) -> bool
+    ensures { result ≡ (nat_le size 2048 && nat_le slots 512) }
+{
+    size <= 2048 && slots <= 512
+}
+
+pub(crate) fn mask_number(mask: u32) -> bool
+    ensures { result ≡ nat_le mask 63 }
+{
+    mask <= 63
+}
+
+// Whether a slot that holds this may be overwritten: it is null, or the descriptor has the delete right.
+pub(crate) fn is_overwritable(held: Option<Descriptor>) -> bool
+    ensures { result ≡ overwritable held }
+{
+    match held {
+        Some(d) => Right::Delete.is_in(d.rights),
+        None => true,
+    }
+}
+
+pub(crate) fn level_of(entry: Option<Entry>) -> u8
+    ensures { result ≡ level_by entry }
+{
+    match entry {
+        Some(e) => e.level(),
+        None => 0,
+    }
+}
+
+pub(crate) fn kind_of(entry: Option<Entry>) -> u8
+    ensures { result ≡ kind_by entry }
+{
+    match entry {
+        Some(e) => e.kind(),
+        None => 0,
+    }
+}
+
+// Whether an entry has parts that a refinement can show.
+pub(crate) fn has_parts(entry: Option<Entry>) -> bool
+    ensures { result ≡ has_parts entry }
+{
+    match entry {
+        Some(Entry::Object(_)) => true,
+        Some(Entry::Control(_)) => false,
+        Some(Entry::Refined(_)) => true,
+        None => true,
+    }
+}
+
+// Whether both runs of a refinement lie within what its source shows.
+pub(crate) fn parts_fit(byte: u32, bytes: u32, slot: u32, slots: u32, shown: Shown) -> bool
+    ensures { result ≡ (fits byte bytes shown.bytes && fits slot slots shown.slots) }
+{
+    run_fits(byte, bytes as usize, shown.bytes) && run_fits(slot, slots as usize, shown.slots)
 }

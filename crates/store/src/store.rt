@@ -1,4 +1,8 @@
 // A store: its directory, and the bank that holds the bytes of its objects.
+ghost use Rattle.std.specs.Prelude.{[]};
+ghost use Rattle.store.specs.Orderly.{IsOrderly};
+ghost use Rattle.tables.specs.Live.{state_of};
+
 use bank::Bank;
 use tables::directory::Directory;
 
@@ -6,4 +10,5 @@ use tables::directory::Directory;
 pub struct Store<B: Bank> {
     pub(crate) directory: Directory,
     pub(crate) bank: B,
+    ghost orderly: { IsOrderly (state_of directory []) },
 }

@@ -21,7 +21,7 @@ unfolding fill_plan ◌≫=◌ check in_range done
 returns-then-not-fill_numbers g c =
     let l : List ℕ = g.B.Bank.bytes c.args.self.now.bank in
     let target = c.entry-target.ensures.value l in
-    let shown = c.shown-shown.ensures l in
+    let shown = c.shown-shown.ensures.value l in
     search rules
 
 pub returns : goal.returns
@@ -29,5 +29,5 @@ unfolding fill_plan ◌≫=◌ check in_range done apply overwrite state_of
 returns g c =
     let l : List ℕ = g.B.Bank.bytes c.args.self.now.bank in
     let target = c.entry-target.ensures.value l in
-    let shown = c.shown-shown.ensures l in
+    let shown = c.shown-shown.ensures.value l in
     search rules

@@ -22,7 +22,7 @@ returns-in_default g c =
     let l : List ℕ = g.B.Bank.bytes c.args.self.now.bank in
     let target = c.entry-target.ensures.value l in
     let named = c.entry-named.ensures.value l in
-    let shown = c.shown-shown.ensures l in
+    let shown = c.shown-shown.ensures.value l in
     search rules
 
 pub returns-then-not-grant_numbers : goal.returns-then-not-grant_numbers
@@ -31,7 +31,7 @@ returns-then-not-grant_numbers g c =
     let l : List ℕ = g.B.Bank.bytes c.args.self.now.bank in
     let target = c.entry-target.ensures.value l in
     let named = c.entry-named.ensures.value l in
-    let shown = c.shown-shown.ensures l in
+    let shown = c.shown-shown.ensures.value l in
     search rules
 
 pub returns : goal.returns
@@ -40,5 +40,5 @@ returns g c =
     let l : List ℕ = g.B.Bank.bytes c.args.self.now.bank in
     let target = c.entry-target.ensures.value l in
     let named = c.entry-named.ensures.value l in
-    let shown = c.shown-shown.ensures l in
+    let shown = c.shown-shown.ensures.value l in
     search rules
