@@ -1,0 +1,153 @@
+-- The states of the listing, and of the calls after it.
+-- Assumes nothing.
+use Rattle.std.proofs.Common.{◌≡◌, ℕ, ◌+◌, ◌≤◌, Bool, true, false, leb, List, [], ◌∷◌, length, replicate, Some, None, Ok, Err, refl}
+use Rattle.std.proofs.lemmas.Bool.{le-leb}
+use Rattle.bank.specs.Runs.{read_run, write_run}
+use Rattle.rules.specs.declared.entry.Entry.{Entry}
+use Rattle.rules.specs.declared.entry.Entry.TheVariants.{Object}
+use Rattle.rules.specs.declared.fault.Reason.TheVariants.{NullEnvironment, NotDeletable, OutOfRange, NoRoom}
+use Rattle.rules.specs.State.{State, no_table, empty, table, stack, level, entry, word_at, word_bytes, encode, decode, valid, named, has, shown, slot_at, byte_at, held, read, write, delete}
+use Rattle.rules.specs.Tests.{◌≫=◌, check, some, choose, refusal, refusal_at, loading, operator, environment, resolve, source_or_null, source, source_with, destination, in_range, storable, has_room, room}
+use Rattle.rules.specs.Effects.{overwrite, put, with_table, with_stack, grown, add, new_object, enter, leave, sealing, apply, done}
+use Rattle.rules.specs.Loading.{adding, making, place_plan, starting, task_plan, grant_plan, seal_plan}
+use Rattle.rules.specs.Operators.{makes, null_plan, create_plan, read_plan, write_plan, see_plan, call_plan, return_plan}
+use Rattle.examples.specs.Listing.{Gives}
+
+-- the definitions of the calls, opened; what stays shut are the words of descriptors and the runs of bytes
+opened : Unit {0}
+unfolding empty table stack level entry shown slot_at byte_at held
+    ◌≫=◌ check some choose loading operator environment resolve source_or_null source source_with destination in_range storable has_room room
+    overwrite put with_table with_stack grown add new_object enter leave sealing apply done
+    adding making place_plan starting task_plan grant_plan seal_plan makes null_plan create_plan read_plan write_plan see_plan call_plan return_plan
+opened = tt
+
+-- a state in which only task 1 has a table and open contexts
+abbrev pub only : List Entry → ℕ → List ℕ → Bool → List ℕ → State
+only es claim cs seal b =
+    record {
+      tables = no_table ∷ record { entries = es; claim = claim } ∷ replicate 7 no_table;
+      stacks = [] ∷ cs ∷ replicate 7 [];
+      sealed = seal;
+      bytes = b;
+    }
+
+abbrev pub context : Entry
+context = Object (record { base = 2064; bytes = 0; slots = 4; kind = 1; level = 1 })
+
+abbrev pub object : Entry
+object = Object (record { base = 2064; bytes = 2; slots = 0; kind = 0; level = 0 })
+
+-- the word of the object, with these rights
+abbrev pub word : ℕ → ℕ
+word rights = encode (record { table = 1; index = 1; rights = rights })
+
+-- rights that can be granted, and with which bytes can be read and written
+pub record Usable (rights : ℕ) : Type 0 where
+  pub small : leb rights 63 ≡ true
+  pub is_valid : valid (word rights) ≡ true
+  pub decodes : decode (word rights) ≡ record { table = 1; index = 1; rights = rights }
+  pub reads : has read rights ≡ true
+  pub writes : has write rights ≡ true
+  pub comes_back : word_at (word_bytes (word rights)) 0 ≡ word rights
+
+pub usable_3 : Usable 3
+unfolding valid encode decode has word_at word_bytes
+usable_3 = record { small = refl; is_valid = refl; decodes = refl; reads = refl; writes = refl; comes_back = refl }
+
+pub usable_35 : Usable 35
+unfolding valid encode decode has word_at word_bytes
+usable_35 = record { small = refl; is_valid = refl; decodes = refl; reads = refl; writes = refl; comes_back = refl }
+
+pub names_object : (s : State) (r : ℕ) → Usable r → entry s 1 1 ≡ Some object → named s (word r) ≡ Some (record { table = 1; index = 1; rights = r })
+unfolding named
+names_object s r u e = rw (u.is_valid, u.decodes, e)
+
+pub names_nothing : (s : State) → named s 0 ≡ None
+unfolding named valid
+names_nothing s = refl
+
+-- the context and the object, not sealed or sealed
+abbrev pub loaded : Bool → List ℕ → State
+loaded seal b = only (context ∷ object ∷ []) 18 (0 ∷ []) seal b
+
+-- inside a call
+abbrev pub inner : List ℕ → State
+inner b = only (context ∷ object ∷ Object (record { base = 2082; bytes = 0; slots = 4; kind = 1; level = 2 }) ∷ []) 34 (2 ∷ 0 ∷ []) true b
+
+-- with an object of n bytes more
+abbrev pub with_new : ℕ → List ℕ → State
+with_new n b = only (context ∷ object ∷ Object (record { base = 2066; bytes = n; slots = 0; kind = 0; level = 1 }) ∷ []) (18 + (0 + n)) (0 ∷ []) true b
+
+-- the word that names it
+abbrev pub new_word : ℕ
+new_word = encode (record { table = 1; index = 2; rights = 63 })
+
+module _ (b : List ℕ) (enough : 18432 ≤ length b) where
+  long : leb 18432 (length b) ≡ true
+  long = le-leb 18432 (length b) enough
+
+  pub tasks : Gives (task_plan 1 4) (empty b) (Ok 0) (only (context ∷ []) 16 (0 ∷ []) false (write_run b 2048 (replicate 16 0)))
+  unfolding opened
+  tasks = rw long
+
+  pub places : let s : State = only (context ∷ []) 16 (0 ∷ []) false b in Gives (place_plan 1 2 0 0) s (Ok 1) (loaded false (write_run b 2064 (replicate 2 0)))
+  unfolding opened
+  places = rw long
+
+  pub grants : (r : ℕ) → Usable r → Gives (grant_plan 1 0 0 1 1 r) (loaded false b) (Ok tt) (loaded false (write_run b 2060 (word_bytes (word r))))
+  unfolding opened
+  grants r u = rw (long, u.small)
+
+  pub seals : Gives seal_plan (loaded false b) (Ok tt) (loaded true b)
+  unfolding opened
+  seals = rw long
+
+  -- slot 1 of the context is null
+  module _ (null : word_at b 2056 ≡ 0) where
+    pub nulls_not : Gives (null_plan 1 5) (loaded true b) (Err (refusal_at NullEnvironment 1 1 5)) (loaded true b)
+    unfolding opened
+    nulls_not = rw (long, null, names_nothing (loaded true b))
+
+    pub sees_not : Gives (see_plan 1 5) (loaded true b) (Err (refusal_at NullEnvironment 1 1 5)) (loaded true b)
+    unfolding opened
+    sees_not = rw (long, null, names_nothing (loaded true b))
+
+    pub creates : (n : ℕ) → leb n 2048 ≡ true → leb (18 + (0 + n)) 2048 ≡ true →
+        Gives (create_plan 1 4 n 0) (loaded true b) (Ok tt) (with_new n (write_run (write_run b 2066 (replicate (0 + n) 0)) 2056 (word_bytes new_word)))
+    unfolding opened
+    creates n e f = rw (long, null, names_nothing (loaded true b), e, f)
+
+    pub creates_not : (n : ℕ) → leb n 2048 ≡ true → leb (18 + (0 + n)) 2048 ≡ false → Gives (create_plan 1 4 n 0) (loaded true b) (Err (refusal NoRoom 1)) (loaded true b)
+    unfolding opened
+    creates_not n e f = rw (long, null, names_nothing (loaded true b), e, f)
+
+    pub calls : Gives (call_plan 1 4 4) (loaded true b) (Ok tt) (inner (write_run (write_run b 2066 (replicate 16 0)) 2078 (word_bytes 0)))
+    unfolding opened
+    calls = rw (long, null, names_nothing (loaded true b))
+
+  -- slot 0 of the context names the object
+  module _ (r : ℕ) (u : Usable r) (names : word_at b 2060 ≡ word r) where
+    pub nulls_not_first : has delete r ≡ false → Gives (null_plan 1 0) (loaded true b) (Err (refusal_at NotDeletable 1 1 0)) (loaded true b)
+    unfolding opened
+    nulls_not_first e = rw (long, names, names_object (loaded true b) r u refl, e)
+
+    pub writes : Gives (write_plan 1 0 1 (7 ∷ [])) (loaded true b) (Ok tt) (loaded true (write_run b 2065 (7 ∷ [])))
+    unfolding opened
+    writes = rw (long, names, names_object (loaded true b) r u refl, u.writes)
+
+    pub reads : (o n : ℕ) → leb (o + n) 2 ≡ true → Gives (read_plan 1 0 o n) (loaded true b) (Ok (read_run b (2064 + (0 + o)) n)) (loaded true b)
+    unfolding opened
+    reads o n e = rw (long, names, names_object (loaded true b) r u refl, u.reads, e)
+
+    pub reads_not : (o n : ℕ) → leb (o + n) 2 ≡ false → Gives (read_plan 1 0 o n) (loaded true b) (Err (refusal OutOfRange 1)) (loaded true b)
+    unfolding opened
+    reads_not o n e = rw (long, names, names_object (loaded true b) r u refl, u.reads, e)
+
+    -- slot 1 of the inner context is null
+    pub returns : has delete r ≡ true → word_at b 2074 ≡ 0 → Gives (return_plan 1 4) (inner b) (Ok tt) (loaded true (write_run b 2060 (word_bytes 0)))
+    unfolding opened
+    returns e null = rw (long, null, names_nothing (inner b), names, names_object (inner b) r u refl, e)
+
+  pub sees : (n : ℕ) → word_at b 2056 ≡ new_word → Gives (see_plan 1 4) (with_new n b) (Ok (Some (record { table = 1; index = 2; rights = 63 }))) (with_new n b)
+  unfolding opened named valid encode decode
+  sees n e = rw (long, e)
