@@ -1,6 +1,6 @@
 -- Contexts opened and entries named: a storage object or another entry made, and then what follows.
 -- Assumes nothing.
-use Rattle.std.proofs.Common.{◌≡◌, ℕ, ◌+◌, ◌*◌, ◌<◌, Bool, true, cond, List, ◌∷◌, length, Ok, Err, sym, refl, ap, ◌∙◌, add-zero, arith}
+use Rattle.std.proofs.Common.{◌≡◌, ℕ, ◌+◌, ◌*◌, ◌<◌, true, cond, ◌∷◌, length, Ok, Err, sym, refl, ap, ◌∙◌, add-zero}
 use Rattle.std.proofs.lemmas.Bool.{lt-ltb}
 use Rattle.std.proofs.lemmas.List.{get_or-set_same}
 use Rattle.rules.specs.declared.entry.Entry.{Entry}

@@ -1,4 +1,4 @@
-use Rattle.std.proofs.Common.{arith, rules}
+use Rattle.std.proofs.Common.{rules}
 use Rattle.rules.specs.State.{has}
 use Rattle.rules.proofs.right.Right.is_in.Goals as goal
 

@@ -1,8 +1,6 @@
-use Rattle.std.proofs.Common.{◌≡◌, ℕ, ◌+◌, ◌-◌, ◌*◌, List, Err, ◌∙◌, add-zero, arith, rules}
+use Rattle.std.proofs.Common.{◌≡◌, ℕ, ◌+◌, ◌-◌, ◌*◌, List, Err, arith, rules}
 use Rattle.rules.specs.State.{State, word_bytes}
-use Rattle.rules.specs.Effects.{done, first_slot, overwrite}
-use Rattle.store.specs.Steps.{opening}
-use Rattle.rules.specs.Tests.{◌≫=◌, check, room}
+use Rattle.rules.specs.Effects.{first_slot, overwrite}
 use Rattle.tables.specs.Live.{state_of}
 use Rattle.store.proofs.Additions.{begin_is, next_byte}
 use Rattle.store.proofs.Starts.{not_opened, opened}

@@ -1,4 +1,4 @@
-use Rattle.std.proofs.Common.{◌≡◌, ℕ, List, sym, refl, ap, ◌∙◌, arith, rules}
+use Rattle.std.proofs.Common.{ℕ, List, refl, arith, rules}
 use Rattle.rules.specs.declared.entry.Entry.TheVariants.{Refined}
 use Rattle.rules.specs.State.{State}
 use Rattle.rules.specs.Effects.{done}

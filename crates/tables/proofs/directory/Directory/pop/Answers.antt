@@ -1,7 +1,7 @@
-use Rattle.std.proofs.Common.{◌≡◌, ℕ, ◌<◌, List, [], ◌∷◌, length, sym, refl, ap, ◌∙◌, arith}
+use Rattle.std.proofs.Common.{◌≡◌, ℕ, List, [], ◌∷◌, length, sym, refl, ap, ◌∙◌, arith}
 use Rattle.rules.specs.State.{State, stack}
 use Rattle.rules.specs.Effects.{popped, with_stack}
-use Rattle.tables.specs.Live.{stack_of, state_of}
+use Rattle.tables.specs.Live.{state_of}
 use Rattle.tables.proofs.States.{no_stack, same_stack, stack_at, stacks_set}
 use Rattle.tables.proofs.directory.Directory.pop.Goals as goal
 

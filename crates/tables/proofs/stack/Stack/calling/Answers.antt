@@ -1,4 +1,4 @@
-use Rattle.std.proofs.Common.{◌≡◌, ℕ, ◌-◌, ◌<◌, List, [], ◌∷◌, length, get_or, None, sym, refl, ap, ◌∙◌, arith, rules}
+use Rattle.std.proofs.Common.{◌≡◌, ℕ, ◌-◌, ◌<◌, List, [], ◌∷◌, length, get_or, None, sym, refl, ap, ◌∙◌, arith}
 use Rattle.rules.specs.Operators.{calling}
 use Rattle.tables.specs.declared.stack.Stack.{Stack}
 use Rattle.tables.specs.Live.{stack_of}

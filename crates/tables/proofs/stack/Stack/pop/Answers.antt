@@ -1,4 +1,4 @@
-use Rattle.std.proofs.Common.{ℕ, ◌-◌, sym, ap, arith}
+use Rattle.std.proofs.Common.{◌-◌, sym, ap, arith}
 use Rattle.rules.specs.Effects.{popped}
 use Rattle.tables.specs.declared.stack.Stack.{Stack}
 use Rattle.tables.proofs.Stacks.{height, top}
