@@ -7,6 +7,7 @@ ghost use Rattle.rules.specs.Tests.{current as current_of};
 ghost use Rattle.tables.specs.Live.{can_add, can_enter, can_leave, state_of};
 
 use crate::directory::Directory;
+use crate::rows::BLOCK;
 use crate::stack::Stack;
 use crate::table::Table;
 use rules::entry::{Entry, Refinement};
@@ -15,8 +16,6 @@ use rules::shown::Shown;
 const TABLES: u32 = 9;
 
 const LEVELS: u32 = 8;
-
-const BLOCK: u32 = 2048;
 
 impl Directory {
     pub fn new() -> Directory

@@ -11,7 +11,7 @@ use rules::entry::{Entry, TypeControl};
 
 const MOST_ENTRIES: usize = 64;
 
-const BLOCK: u32 = 2048;
+pub(crate) const BLOCK: u32 = 2048;
 
 impl Table {
     pub(crate) fn new() -> Table
