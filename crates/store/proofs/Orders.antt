@@ -191,9 +191,9 @@ orderly_entered d d' d'' q i e inside o o' object grows same index after = subst
         (rw (same_tables u q (i ∷ stack u q) q, new_stack u q (i ∷ stack u q) (omega (arith, nine_stacks d' []))) opened)
     go false = o'
 
--- an object made at the claim begins in its table's block
-pub made_fits : (t claim n k a b : ℕ) → claim + n ≤ 2048 → a ≡ block_start t + claim → b ≡ a + 4 * k → leb (b - 4 * k - block_start t) 2048 ≡ true
-made_fits t claim n k a b room begin base = le-leb (b - 4 * k - block_start t) 2048 (omega arith)
+-- an object made at the claim fits its table
+pub made_fits : (t claim n k a b : ℕ) → claim + n ≤ 2048 → a ≡ block_start t + claim → b ≡ a + 4 * k → (leb (block_start t + 4 * k) b && leb (b - 4 * k - block_start t) 2048) ≡ true
+made_fits t claim n k a b room begin base = rw (le-leb (block_start t + 4 * k) b (omega arith), le-leb (b - 4 * k - block_start t) 2048 (omega arith))
 
 -- the current context ends
 module _ (s : State) (q c : ℕ) (o : IsOrderly s) (h : q < length s.tables) (h' : q < length s.stacks) (now : current (stack s q) ≡ Some c) where
@@ -223,7 +223,7 @@ module _ (s : State) (q c : ℕ) (o : IsOrderly s) (h : q < length s.tables) (h'
   may_leave = go (slice_get es c) refl
     where
       go : (x : Option Entry) → slice_get es c ≡ x → leb ((shown_by s q c x).base - 4 * (shown_by s q c x).slots - block_start q) 2048 ≡ true
-      go (Some (Object p)) e = all_fit_at q c es (Object p) (o.entries q) e
+      go (Some (Object p)) e = (and_parts (leb (block_start q + 4 * p.slots) p.base) (leb (p.base - 4 * p.slots - block_start q) 2048) (all_fit_at q c es (Object p) (o.entries q) e)).1
       go (Some (Control k)) e = let wrong : false ≡ true = rw e at object in cc
       go (Some (Refined r)) e = let wrong : false ≡ true = rw e at object in cc
       go None e = let wrong : false ≡ true = rw e at object in cc

@@ -1,13 +1,13 @@
--- What the code of the operators relies on in the tables and the stacks of a store. Assumes nothing.
+-- The order in the tables and the stacks of a store, on which the code of the operators relies. Assumes nothing.
 use Rattle.std.specs.Prelude.{◌≡◌, ℕ, ◌+◌, ◌-◌, ◌*◌, Bool, true, false, ◌&&◌, List, [], ◌∷◌, length, Some, None, Option, nat_le, nat_lt}
 use Rattle.std.specs.List.{slice_get}
 use Rattle.rules.specs.declared.entry.Entry.{Entry}
 use Rattle.rules.specs.declared.entry.Entry.TheVariants.{Object, Control, Refined}
 use Rattle.rules.specs.State.{State, block_start, stack, table}
 
--- a storage object of table t begins in its block, and the runs of a refinement end below 65,536
+-- the bytes of a storage object of table t begin in its block or at its end, and the runs of a refinement end below 65,536
 abbrev pub fits_table : ℕ → Entry → Bool
-fits_table t (Object o) = nat_le (o.base - 4 * o.slots - block_start t) 2048
+fits_table t (Object o) = nat_le (block_start t + 4 * o.slots) o.base && nat_le (o.base - 4 * o.slots - block_start t) 2048
 fits_table t (Control c) = true
 fits_table t (Refined r) = nat_lt (r.byte + r.bytes) 65536 && nat_lt (r.slot + r.slots) 65536
 

@@ -82,6 +82,7 @@ impl Table {
             self.push(entry, bytes);
         }
     }
+
     // Keeps the first entries, and sets how many bytes are taken.
     pub(crate) fn cut(&mut self, count: usize, claim: u32)
         requires { (count ≤ length (table_of self.old).entries) × (claim ≤ 2048) }
