@@ -31,6 +31,6 @@ can_enter s q = nat_lt q 9 && nat_lt (level s q) 8
 abbrev pub bytes_before : State → ℕ → ℕ → ℕ
 bytes_before s q c = (shown s q c).base - 4 * (shown s q c).slots - block_start q
 
--- those bytes lie in the block
+-- there are no more of them than bytes in a block
 unfoldable pub can_leave : State → ℕ → ℕ → Bool
 can_leave s q c = nat_le (bytes_before s q c) 2048
