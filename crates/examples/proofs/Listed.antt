@@ -178,7 +178,6 @@ module _ (l : List ℕ) (h : 18432 ≤ length l) where
   call_made = calls start (long_listed 35 usable_35) (listed_second 35 usable_35)
 
   pub return_made : Gives (return_plan 1 4) (inner in_call) (Ok tt) (loaded true after_call)
-  unfolding has
   return_made = returns in_call long_in_call 35 usable_35 (in_call_kept 2060 (omega arith) ∙ listed_first 35 usable_35) refl in_call_null
 
   pub create_made : Gives (create_plan 1 4 1 0) (loaded true after_call) (Ok tt) (with_new 1 after_create)

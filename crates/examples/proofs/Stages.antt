@@ -15,7 +15,7 @@ use Rattle.examples.specs.Listing.{Gives}
 
 -- the definitions of the calls, opened; what stays shut are the words of descriptors and the runs of bytes
 opened : Unit {0}
-unfolding empty table stack level entry shown slot_at byte_at held
+unfolding empty table stack level entry shown held
     ◌≫=◌ check some choose loading operator environment resolve source_or_null source source_with destination in_range storable has_room room
     overwrite put with_table with_stack grown add new_object enter leave sealing apply done
     adding making place_plan starting task_plan grant_plan seal_plan makes null_plan create_plan read_plan write_plan see_plan call_plan return_plan
@@ -51,11 +51,11 @@ pub record Usable (rights : ℕ) : Type 0 where
   pub comes_back : word_at (word_bytes (word rights)) 0 ≡ word rights
 
 pub usable_3 : Usable 3
-unfolding valid encode decode has word_at word_bytes
+unfolding valid encode decode word_at word_bytes
 usable_3 = record { small = refl; is_valid = refl; decodes = refl; reads = refl; writes = refl; comes_back = refl }
 
 pub usable_35 : Usable 35
-unfolding valid encode decode has word_at word_bytes
+unfolding valid encode decode word_at word_bytes
 usable_35 = record { small = refl; is_valid = refl; decodes = refl; reads = refl; writes = refl; comes_back = refl }
 
 pub names_object : (s : State) (r : ℕ) → Usable r → entry s 1 1 ≡ Some object → named s (word r) ≡ Some (record { table = 1; index = 1; rights = r })

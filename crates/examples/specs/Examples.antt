@@ -4,7 +4,8 @@ use Rattle.hamming.specs.Code.{code_word, decoded}
 use Rattle.bank.specs.Runs.{read_run}
 use Rattle.rules.specs.declared.fault.Reason.{Reason}
 use Rattle.rules.specs.Faults.{number_of, layer_of, letter_of}
-use Rattle.rules.specs.State.{State, Place, empty, stack, shown, slot_at, held}
+use Rattle.rules.specs.declared.shown.Place.{Place}
+use Rattle.rules.specs.State.{State, empty, stack, shown, slot_at, held}
 use Rattle.rules.specs.Tests.{refusal_at}
 use Rattle.rules.specs.Effects.{next_index, put}
 use Rattle.rules.specs.Loading.{task_plan, place_plan, grant_plan, seal_plan}

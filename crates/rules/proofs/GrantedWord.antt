@@ -1,15 +1,17 @@
 -- The word that a grant writes, on an example: entry 1 of table 1 with rights 3, granted into slot 0 of entry 0 of table 1.
 -- Where task 1 was loaded before anything was placed in its table, entry 0 of table 1 is its first context.
 -- Assumes nothing.
-use Rattle.std.proofs.Common.{◌≡◌, ℕ, ◌+◌, ◌≤◌, true, false, [], ◌∷◌, length, get_or, is_ok, Ok, Err, Result, refl, ap, ◌∙◌, arith}
+use Rattle.std.proofs.Common.{◌≡◌, ℕ, ◌+◌, ◌≤◌, true, false, ◌&&◌, nat_le, nat_lt, [], ◌∷◌, length, get_or, is_ok, Ok, Err, Result, refl, ap, ◌∙◌, arith}
 use Rattle.std.proofs.lemmas.Bool.{both_ways}
 use Rattle.bank.specs.Runs.{write_run}
 use Rattle.bank.proofs.RunLaws.{get_or-write_run_inside}
 use Rattle.rules.specs.declared.fault.Fault.{Fault}
-use Rattle.rules.specs.State.{State, Place, shown, slot_at, held, word_at, word_bytes, encode}
-use Rattle.rules.specs.Tests.{◌≫=◌}
-use Rattle.rules.specs.Effects.{Planned, apply, done, put, overwrite}
-use Rattle.rules.specs.Loading.{grant_plan}
+use Rattle.rules.specs.declared.fault.Reason.TheVariants.{WrongType}
+use Rattle.rules.specs.declared.shown.Place.{Place}
+use Rattle.rules.specs.State.{State, entry, shown, slot_at, held, word_at, word_bytes, encode}
+use Rattle.rules.specs.Tests.{◌≫=◌, check, in_range, loading, refusal}
+use Rattle.rules.specs.Effects.{Planned, apply, done, put, put_word, overwrite}
+use Rattle.rules.specs.Loading.{exists, grant_plan, holds, nameable}
 
 pub word : encode (record { table = 1; index = 1; rights = 3 }) ≡ 0x07001001
 unfolding encode
@@ -20,7 +22,6 @@ unfolding word_bytes
 low_byte_first = refl
 
 after_three : (a b c : Result (Unit {0}) Fault) (p : Planned (Unit {0})) (s : State) → is_ok (done s (a ≫= λ _. b ≫= λ _. c ≫= λ _. Ok p)).0 ≡ true → (done s (a ≫= λ _. b ≫= λ _. c ≫= λ _. Ok p)).1 ≡ apply p.effect s
-unfolding done ◌≫=◌
 after_three (Ok x) (Ok y) (Ok z) p s e = refl
 after_three (Err f) b c p s e = absurd (both_ways false refl e)
 after_three (Ok x) (Err f) c p s e = absurd (both_ways false refl e)
@@ -31,8 +32,12 @@ slot_of s = record { by = shown s 1 0; at = 0 }
 
 -- a grant that is not refused writes the word, and nothing else
 pub grant_writes : (s : State) → is_ok (done s (grant_plan 1 0 0 1 1 3 s)).0 ≡ true → (done s (grant_plan 1 0 0 1 1 3 s)).1 ≡ put (slot_of s) 0x07001001 s
-unfolding grant_plan apply encode
-grant_writes s e = after_three _ _ _ _ s e
+unfolding grant_plan encode
+grant_writes s e =
+    after_three (loading s 0) (check (holds (entry s 1 0) && nameable (entry s 1 1)) (refusal WrongType 0))
+    (in_range (exists (entry s 1 1) && (exists (entry s 1 0) && nat_lt 0 (shown s 1 0).slots && nat_le 3 63)) 0)
+    (record { answer = tt; effect = put_word (slot_of s) (encode (record { table = 1; index = 1; rights = 3 })) })
+    s e
 
 -- and it is then what the slot holds, on a bank that has the slot
 pub grant_held : (s : State) → is_ok (done s (grant_plan 1 0 0 1 1 3 s)).0 ≡ true → slot_at (shown s 1 0) 0 + 4 ≤ length s.bytes → held (done s (grant_plan 1 0 0 1 1 3 s)).1 (slot_of s) ≡ 0x07001001

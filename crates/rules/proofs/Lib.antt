@@ -1,2 +1,1 @@
-pub mod Binds
 pub mod GrantedWord

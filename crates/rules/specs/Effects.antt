@@ -4,7 +4,8 @@ use Rattle.bank.specs.Runs.{write_run}
 use Rattle.rules.specs.declared.entry.Entry.{Entry}
 use Rattle.rules.specs.declared.entry.Entry.TheVariants.{Object}
 use Rattle.rules.specs.declared.fault.Fault.{Fault}
-use Rattle.rules.specs.State.{State, Table, Place, table, stack, level, shown, slot_at, block_start, takes, word_bytes, encode}
+use Rattle.rules.specs.declared.shown.Place.{Place}
+use Rattle.rules.specs.State.{State, Table, table, stack, level, shown, slot_at, block_start, takes, word_bytes, encode}
 
 -- the bytes from an address on replaced
 unfoldable pub overwrite : ℕ → List ℕ → State → State
@@ -69,7 +70,7 @@ pub data Effect : Type 0 where
 abbrev pub first_slot : State → ℕ → ℕ → ℕ
 first_slot s q k = block_start q + (table s q).claim + 4 * k - 4
 
-unfoldable pub apply : Effect → State → State
+abbrev pub apply : Effect → State → State
 apply keep s = s
 apply (put_word l w) s = put l w s
 apply (write_bytes a bs) s = overwrite a bs s
@@ -86,6 +87,6 @@ pub record Planned (X : Type 0) : Type 0 where
   pub effect : Effect
 
 -- a refused call changes nothing
-unfoldable pub done : {X : Type 0} → State → Result (Planned X) Fault → Result X Fault × State
+abbrev pub done : {X : Type 0} → State → Result (Planned X) Fault → Result X Fault × State
 done s (Ok p) = (Ok p.answer, apply p.effect s)
 done s (Err f) = (Err f, s)

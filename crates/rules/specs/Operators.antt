@@ -7,7 +7,8 @@ use Rattle.rules.specs.declared.fault.Fault.{Fault}
 use Rattle.rules.specs.declared.fault.Reason.TheVariants.{NoLevel, WrongType, NotDeletable, StoringRule}
 use Rattle.rules.specs.declared.shown.Descriptor.{Descriptor}
 use Rattle.rules.specs.declared.shown.Shown.{Shown}
-use Rattle.rules.specs.State.{State, Place, stack, level, entry, named, shown, byte_at, held, encode, read, write, type1, type2}
+use Rattle.rules.specs.declared.shown.Place.{Place}
+use Rattle.rules.specs.State.{State, stack, level, entry, named, shown, byte_at, held, encode, read, write, type1, type2}
 use Rattle.rules.specs.Tests.{◌≫=◌, check, some, refusal, refusal_at, operator, source_or_null, source, source_with, control, destination, overwritable, in_range, fits, storable, room, level_by, kind_by}
 use Rattle.rules.specs.Effects.{Planned, keep, put_word, write_bytes, add_named, open_context, close_context, new_object}
 

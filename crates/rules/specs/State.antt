@@ -6,6 +6,7 @@ use Rattle.rules.specs.declared.entry.Entry.TheVariants.{Object, Control, Refine
 use Rattle.rules.specs.declared.entry.Storage.{Storage}
 use Rattle.rules.specs.declared.entry.Refinement.{Refinement}
 use Rattle.rules.specs.declared.shown.Descriptor.{Descriptor}
+use Rattle.rules.specs.declared.shown.Place.{Place}
 use Rattle.rules.specs.declared.shown.Shown.{Shown}
 
 -- a table: its live entries in order of making, and how many bytes of its block are taken
@@ -105,7 +106,7 @@ abbrev pub delete : ℕ
 delete = 32
 
 -- whether a right, by its number, is among the rights
-unfoldable pub has : ℕ → ℕ → Bool
+abbrev pub has : ℕ → ℕ → Bool
 has right rights = rights / right % 2 == 1
 
 abbrev pub nothing : Shown
@@ -133,16 +134,11 @@ unfoldable pub shown : State → ℕ → ℕ → Shown
 shown s t i = shown_by s t i (entry s t i)
 
 -- where a data byte that is shown lies, and where a slot begins: slot 0 of an object lies four bytes below its base
-unfoldable pub byte_at : Shown → ℕ → ℕ
+abbrev pub byte_at : Shown → ℕ → ℕ
 byte_at v j = v.base + (v.byte + j)
 
-unfoldable pub slot_at : Shown → ℕ → ℕ
+abbrev pub slot_at : Shown → ℕ → ℕ
 slot_at v i = v.base - 4 * (v.slot + i + 1)
-
--- a slot: what shows it, and its number there
-pub record Place : Type 0 where
-  pub by : Shown
-  pub at : ℕ
 
 -- the word that a slot holds
 unfoldable pub held : State → Place → ℕ

@@ -8,23 +8,24 @@ use Rattle.rules.specs.declared.fault.Reason.{Reason}
 use Rattle.rules.specs.declared.fault.Reason.TheVariants.{SmallBank, WrongPhase, NoTask, NullEnvironment, EnvironmentRight, NoSlot, NullSource, MissingRight, WrongType, NotDeletable, OutOfRange, StoringRule, NoRoom}
 use Rattle.rules.specs.declared.shown.Descriptor.{Descriptor}
 use Rattle.rules.specs.declared.shown.Shown.{Shown}
-use Rattle.rules.specs.State.{State, Table, Place, table, stack, entry, named, shown, slot_at, held, word_at, has, kind_of, level_of, read, write, delete}
+use Rattle.rules.specs.declared.shown.Place.{Place}
+use Rattle.rules.specs.State.{State, Table, table, stack, entry, named, shown, slot_at, held, word_at, has, kind_of, level_of, read, write, delete}
 
 infixr 20 ◌≫=◌
 -- one test after the other: the first that fails gives the fault
-unfoldable pub ◌≫=◌ : {X Y : Type 0} → Result X Fault → (X → Result Y Fault) → Result Y Fault
+abbrev pub ◌≫=◌ : {X Y : Type 0} → Result X Fault → (X → Result Y Fault) → Result Y Fault
 Ok x ≫= f = f x
 Err e ≫= f = Err e
 
-unfoldable pub check : Bool → Fault → Result (Unit {0}) Fault
+abbrev pub check : Bool → Fault → Result (Unit {0}) Fault
 check true f = Ok tt
 check false f = Err f
 
-unfoldable pub some : {X : Type 0} → Option X → Fault → Result X Fault
+abbrev pub some : {X : Type 0} → Option X → Fault → Result X Fault
 some (Some x) f = Ok x
 some None f = Err f
 
-unfoldable pub choose : {X : Type 0} → Bool → X → X → X
+abbrev pub choose : {X : Type 0} → Bool → X → X → X
 choose true x y = x
 choose false x y = y
 
@@ -111,7 +112,7 @@ destination s q c p sel =
     Ok l
 
 -- 12: the numbers are in their ranges, and the runs inside what is there
-unfoldable pub in_range : Bool → ℕ → Result (Unit {0}) Fault
+abbrev pub in_range : Bool → ℕ → Result (Unit {0}) Fault
 in_range b q = check b (refusal OutOfRange q)
 
 -- a run of n from first on lies within what is there
@@ -119,7 +120,7 @@ abbrev pub fits : ℕ → ℕ → ℕ → Bool
 fits first n there = nat_le (first + n) there
 
 -- 13: a descriptor may be stored only in an object whose level is at least that of the entry named
-unfoldable pub storable : ℕ → Place → ℕ → Result (Unit {0}) Fault
+abbrev pub storable : ℕ → Place → ℕ → Result (Unit {0}) Fault
 storable entry_level l q = check (nat_le entry_level l.by.level) (refusal StoringRule q)
 
 abbrev pub level_by : Option Entry → ℕ
@@ -134,5 +135,5 @@ kind_by None = 0
 unfoldable pub has_room : Table → ℕ → Bool
 has_room x n = nat_lt (length x.entries) 64 && nat_le (x.claim + n) 2048
 
-unfoldable pub room : State → ℕ → ℕ → ℕ → Result (Unit {0}) Fault
+abbrev pub room : State → ℕ → ℕ → ℕ → Result (Unit {0}) Fault
 room s t n q = check (has_room (table s t) n) (refusal NoRoom q)

@@ -1,24 +1,25 @@
 // Table entries.
+use crate::kind::Kind;
 
 // A run of block bytes with `slots` slots of four bytes below `base` and `bytes` data bytes from it on.
-#[derive(Clone, Copy)]
+#[derive(Clone, Copy, Debug, PartialEq, Eq)]
 pub struct Storage {
     pub base: u16,
     pub bytes: u16,
     pub slots: u16,
-    pub kind: u8,
+    pub kind: Kind,
     pub level: u8,
 }
 
 // What allows its holder to make objects of a type, or to add rights to descriptors of that type.
-#[derive(Clone, Copy)]
+#[derive(Clone, Copy, Debug, PartialEq, Eq)]
 pub struct TypeControl {
-    pub kind: u8,
+    pub kind: Kind,
     pub rights: u8,
 }
 
 // A part of a storage object: a run of its data bytes and a run of its slots.
-#[derive(Clone, Copy)]
+#[derive(Clone, Copy, Debug, PartialEq, Eq)]
 pub struct Refinement {
     pub table: u8,
     pub index: u8,
@@ -29,7 +30,7 @@ pub struct Refinement {
     pub level: u8,
 }
 
-#[derive(Clone, Copy)]
+#[derive(Clone, Copy, Debug, PartialEq, Eq)]
 pub enum Entry {
     Object(Storage),
     Control(TypeControl),

@@ -3,16 +3,17 @@ ghost use Rattle.rules.specs.State.{kind_of, level_of, takes};
 ghost use Rattle.std.specs.Prelude.{◌≡◌};
 
 use crate::entry::Entry;
+use crate::kind::Kind;
 
 impl Entry {
     // The type of an entry.
-    pub fn kind(&self) -> u8
+    pub fn kind(&self) -> Kind
         ensures { result ≡ kind_of self.now }
     {
         match self {
             Entry::Object(o) => o.kind,
-            Entry::Control(_) => 2,
-            Entry::Refined(_) => 0,
+            Entry::Control(_) => Kind::CONTROL,
+            Entry::Refined(_) => Kind::GENERIC,
         }
     }
 
@@ -32,8 +33,7 @@ impl Entry {
     {
         match self {
             Entry::Object(o) => 4 * o.slots as u32 + o.bytes as u32,
-            Entry::Control(_) => 0,
-            Entry::Refined(_) => 0,
+            Entry::Control(_) | Entry::Refined(_) => 0,
         }
     }
 }

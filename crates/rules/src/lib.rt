@@ -1,11 +1,13 @@
 // The vocabulary of the store: entries, descriptors, faults. The definition of every call is in specs/.
 #![tactic(auto)]
 
+pub mod below;
 pub mod entry;
 mod extent;
 pub mod fault;
+pub mod kind;
 mod numbers;
 mod places;
 pub mod right;
-mod rights;
+pub mod rights;
 pub mod shown;

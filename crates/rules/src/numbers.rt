@@ -15,20 +15,12 @@ impl Reason {
         ensures { result ≡ layer_of self }
     {
         match self {
-            Reason::SmallBank => Layer::Call,
-            Reason::WrongPhase => Layer::Call,
-            Reason::NoTask => Layer::Call,
-            Reason::NoLevel => Layer::Call,
-            Reason::NullEnvironment => Layer::Selector,
-            Reason::EnvironmentRight => Layer::Selector,
-            Reason::NoSlot => Layer::Selector,
-            Reason::NullSource => Layer::Descriptor,
-            Reason::MissingRight => Layer::Descriptor,
-            Reason::WrongType => Layer::Descriptor,
-            Reason::NotDeletable => Layer::Descriptor,
-            Reason::OutOfRange => Layer::Object,
-            Reason::StoringRule => Layer::Object,
-            Reason::NoRoom => Layer::Object,
+            Reason::SmallBank | Reason::WrongPhase | Reason::NoTask | Reason::NoLevel =>
+                Layer::Call,
+            Reason::NullEnvironment | Reason::EnvironmentRight | Reason::NoSlot => Layer::Selector,
+            Reason::NullSource | Reason::MissingRight | Reason::WrongType | Reason::NotDeletable =>
+                Layer::Descriptor,
+            Reason::OutOfRange | Reason::StoringRule | Reason::NoRoom => Layer::Object,
         }
     }
 }

@@ -58,28 +58,14 @@ impl Shown {
     pub fn slot_at(&self, slot: u16) -> u32
         ensures { result ≡ slot_at self.now slot }
     {
-        slot_address(self.base, self.slot, slot)
+        let below = 4 * (self.slot as u32 + slot as u32 + 1);
+        (self.base as u32).saturating_sub(below)
     }
 
     // Where a data byte that is shown lies.
     pub fn byte_at(&self, offset: u16) -> u32
         ensures { result ≡ byte_at self.now offset }
     {
-        byte_address(self.base, self.byte, offset)
+        self.base as u32 + (self.byte as u32 + offset as u32)
     }
-}
-
-// Where the slot begins that is `slot` slots behind the slot `first` of an object with this base.
-fn slot_address(base: u16, first: u16, slot: u16) -> u32
-    ensures { result ≡ base - 4 * (first + slot + 1) }
-{
-    let below = 4 * (first as u32 + slot as u32 + 1);
-    (base as u32).saturating_sub(below)
-}
-
-// Where the data byte lies that is `offset` bytes behind the byte `first` of an object with this base.
-fn byte_address(base: u16, first: u16, offset: u16) -> u32
-    ensures { result ≡ base + (first + offset) }
-{
-    base as u32 + (first as u32 + offset as u32)
 }

@@ -1,22 +1,68 @@
-// Which rights a number stands for.
+// Sets of rights.
+ghost use Rattle.std.specs.Prelude.{◌≡◌, ◌<◌, if◌then◌else◌, Some, None, nat_le};
 ghost use Rattle.rules.specs.Code.{weight};
 ghost use Rattle.rules.specs.State.{has};
-ghost use Rattle.std.specs.Prelude.{◌≡◌};
 
 use crate::right::Right;
+use std::marker::Model;
+use std::ops::BitAnd;
 
-impl Right {
-    // Whether this right is among the rights that a number stands for.
-    pub fn is_in(self, rights: u8) -> bool
-        ensures { result ≡ has (weight self) rights }
+// The rights of a descriptor, as the sum of the numbers that stand for them.
+#[derive(Clone, Copy, Debug, PartialEq, Eq)]
+pub struct Rights {
+    sum: u8,
+}
+
+impl Model for Rights {
+    ghost use Rattle.std.specs.Prelude.{ℕ, ◌<◌};
+
+    ghost Value = { ℕ };
+
+    ghost view = { λ r. r.sum };
+
+    ghost invariant = { λ r. r.sum < 64 };
+
+    ghost inverse = { λ n. record { sum = n } };
+}
+
+impl Rights {
+    pub const ALL: Rights = Rights { sum: 63 };
+
+    pub fn new(sum: u32) -> Option<Rights>
+        ensures { result ≡ (if nat_le sum 63 then Some sum else None) }
     {
-        match self {
-            Right::Read => rights % 2 == 1,
-            Right::Write => rights / 2 % 2 == 1,
-            Right::Type1 => rights / 4 % 2 == 1,
-            Right::Type2 => rights / 8 % 2 == 1,
-            Right::Type3 => rights / 16 % 2 == 1,
-            Right::Delete => rights / 32 % 2 == 1,
+        if sum <= 63 {
+            Some(Rights { sum: sum as u8 })
+        } else {
+            None
+        }
+    }
+
+    pub fn sum(self) -> u8
+        ensures value { result ≡ self }
+        ensures below { result < 64 }
+    {
+        self.sum
+    }
+
+    pub fn contains(self, right: Right) -> bool
+        ensures { result ≡ has (weight right) self }
+    {
+        right.is_in(self.sum)
+    }
+}
+
+// The rights in both sets.
+impl BitAnd for Rights {
+    ghost use Rattle.std.specs.Prelude.{◌≡◌, bit_and};
+
+    type Output = Rights;
+
+    ghost bitand_gives = { λ a b both. both ≡ bit_and a b };
+
+    fn bitand(self, other: Rights) -> Rights {
+        Rights {
+            sum: self.sum & other.sum,
         }
     }
 }

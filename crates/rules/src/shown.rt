@@ -1,8 +1,10 @@
 // What an entry shows, and what a descriptor names.
+use crate::below::Below;
+use crate::rights::Rights;
 
 // Of the storage object `object` of table `owner`, which has this base and level: `bytes` of its data bytes from `byte` on,
 // and `slots` of its slots from `slot` on.
-#[derive(Clone, Copy)]
+#[derive(Clone, Copy, Debug, PartialEq, Eq)]
 pub struct Shown {
     pub owner: u32,
     pub object: u32,
@@ -14,15 +16,15 @@ pub struct Shown {
     pub level: u8,
 }
 
-#[derive(Clone, Copy)]
+#[derive(Clone, Copy, Debug, PartialEq, Eq)]
 pub struct Descriptor {
-    pub table: u16,
-    pub index: u16,
-    pub rights: u8,
+    pub table: Below<4096>,
+    pub index: Below<4096>,
+    pub rights: Rights,
 }
 
 // A slot: what shows it, and its number there.
-#[derive(Clone, Copy)]
+#[derive(Clone, Copy, Debug, PartialEq, Eq)]
 pub struct Place {
     pub by: Shown,
     pub at: u16,

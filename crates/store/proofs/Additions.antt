@@ -62,7 +62,7 @@ answered i e = rw e
 -- a storage object made: its bytes begin at a, its base is b, and m bytes are cleared
 pub made : (d d' : Directory) (l l' : List ℕ) (t n k kind lvl q i a b m : ℕ) → a ≡ next_byte (state_of d l) t → b ≡ a + 4 * k → m ≡ 4 * k + n → l' ≡ write_run l a (replicate m 0) →
     Added d d' l t i (Object (record { base = b; bytes = n; slots = k; kind = kind; level = lvl })) → ◌≡◌ {A = Result ℕ Fault × State} (Ok i, state_of d' l') (done (state_of d l) (making (state_of d l) t n k kind lvl q))
-unfolding making adding room ◌≫=◌ check done apply new_object state_of
+unfolding making adding new_object state_of
 made d d' l l' t n k kind lvl q i a b m e f h c x =
     let s : State = state_of d l in
     let y : Added d d' l t i (Object (record { base = next_byte s t + 4 * k; bytes = n; slots = k; kind = kind; level = lvl })) =
@@ -71,7 +71,7 @@ made d d' l l' t n k kind lvl q i a b m e f h c x =
 
 -- an entry made that takes no bytes
 pub taken : (d d' : Directory) (l : List ℕ) (t i q : ℕ) (e : Entry) → takes e ≡ 0 → Added d d' l t i e → ◌≡◌ {A = Result ℕ Fault × State} (Ok i, state_of d' l) (done (state_of d l) (adding (state_of d l) t e q))
-unfolding adding room ◌≫=◌ check done apply state_of
+unfolding adding state_of
 taken d d' l t i q e none x =
     let s : State = state_of d l in
     let same : cleared s t e ≡ l = ap (λ (n : ℕ). write_run l (next_byte s t) (replicate n 0)) none ∙ write_run_none l (next_byte s t) in

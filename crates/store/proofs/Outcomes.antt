@@ -17,19 +17,15 @@ unlike x f u v e = let same : Ok x ≡ Err f = ap (λ o. o.0) e in let z : ◌�
 
 module _ {X : Type 0} (s : State) (f : Fault) (p : Planned X) where
   pub passed : (b : Bool) (x : X) (u : State) → ◌≡◌ {A = Outcome X} (Ok x, u) (done s (tested b f p)) → (b ≡ true) × (x ≡ p.answer) × (u ≡ apply p.effect s)
-  unfolding done check ◌≫=◌
   passed true x u e = let same : Ok x ≡ Ok p.answer = ap (λ o. o.0) e in (refl, cc, ap (λ o. o.1) e)
   passed false x u e = absurd (unlike x f u s e)
 
   pub passing : (b : Bool) → b ≡ true → ◌≡◌ {A = Outcome X} (done s (tested b f p)) (Ok p.answer, apply p.effect s)
-  unfolding done check ◌≫=◌
   passing b e = rw e
 
   pub failed : {Y : Type 0} (r : Planned Y) (b : Bool) (h : Fault) (u : State) → ◌≡◌ {A = Outcome Y} (Err h, u) (done s (tested b f r)) → ◌≡◌ {A = Outcome X} (Err h, u) (done s (tested b f p))
-  unfolding done check ◌≫=◌
   failed r true h u e = absurd (let same : Err h ≡ Ok r.answer = ap (λ o. o.0) e in let z : ◌≡◌ {A = ℕ} 0 1 = cc in omega arith)
   failed r false h u e = let same : Err h ≡ Err f = ap (λ o. o.0) e in let hf : h ≡ f = cc in let us : u ≡ s = ap (λ o. o.1) e in rw (hf, us)
 
   pub failing : (b : Bool) → b ≡ false → ◌≡◌ {A = Outcome X} (done s (tested b f p)) (Err f, s)
-  unfolding done check ◌≫=◌
   failing b e = rw e

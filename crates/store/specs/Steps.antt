@@ -2,7 +2,8 @@
 use Rattle.std.specs.Prelude.{ℕ, ◌*◌, Ok, Result}
 use Rattle.rules.specs.declared.entry.Entry.{Entry}
 use Rattle.rules.specs.declared.fault.Fault.{Fault}
-use Rattle.rules.specs.State.{State, Place, takes}
+use Rattle.rules.specs.declared.shown.Place.{Place}
+use Rattle.rules.specs.State.{State, takes}
 use Rattle.rules.specs.Tests.{◌≫=◌, room}
 use Rattle.rules.specs.Effects.{Planned, add_named, open_context}
 

@@ -10,7 +10,7 @@ use Rattle.examples.proofs.Listed.{answers, refuses, listed, long_listed, listed
 use Rattle.examples.proofs.worked_examples.Goals as goal
 
 pub returns : goal.returns
-unfolding read_run put overwrite table stack entry shown slot_at held encode word_bytes has code_word data_bits syndrome
+unfolding read_run put overwrite table stack entry shown held encode word_bytes code_word data_bits syndrome
 returns c l h =
     let m : List ℕ = listed l h 3 usable_3 in
     let long = long_listed l h 3 usable_3 in

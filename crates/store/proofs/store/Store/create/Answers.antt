@@ -5,13 +5,13 @@ use Rattle.rules.specs.Operators.{create_plan}
 use Rattle.store.proofs.store.Store.create.Goals as goal
 
 pub returns-in_err-context : goal.returns-in_err-context
-unfolding create_plan ◌≫=◌ done
+unfolding create_plan
 returns-in_err-context g c = search rules
 
 pub returns-in_err-place : goal.returns-in_err-place
-unfolding create_plan ◌≫=◌ done
+unfolding create_plan
 returns-in_err-place g c = search rules
 
 pub returns : goal.returns
-unfolding create_plan ◌≫=◌
+unfolding create_plan
 returns g c = search rules

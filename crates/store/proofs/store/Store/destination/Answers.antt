@@ -3,13 +3,13 @@ use Rattle.rules.specs.Tests.{◌≫=◌, check, destination}
 use Rattle.store.proofs.store.Store.destination.Goals as goal
 
 pub returns-in_err-place : goal.returns-in_err-place
-unfolding destination ◌≫=◌
+unfolding destination
 returns-in_err-place g c = search rules
 
 pub returns-then-not-is_overwritable : goal.returns-then-not-is_overwritable
-unfolding destination ◌≫=◌ check
+unfolding destination
 returns-then-not-is_overwritable g c = search rules
 
 pub returns : goal.returns
-unfolding destination ◌≫=◌ check
+unfolding destination
 returns g c = search rules

@@ -4,28 +4,28 @@ use Rattle.tables.specs.Live.{state_of}
 use Rattle.store.proofs.store.Store.environment.Goals as goal
 
 pub returns-then-slot-eq0 : goal.returns-then-slot-eq0
-unfolding environment choose
+unfolding environment
 returns-then-slot-eq0 g c =
     let l : List ℕ = g.B.Bank.bytes c.args.self.now.bank in
     let current = c.shown-current.ensures.value l in
     search rules
 
 pub returns-in_default : goal.returns-in_default
-unfolding environment choose ◌≫=◌ some state_of
+unfolding environment state_of
 returns-in_default g c =
     let l : List ℕ = g.B.Bank.bytes c.args.self.now.bank in
     let current = c.shown-current.ensures.value l in
     search rules
 
 pub returns-then-not-is_in : goal.returns-then-not-is_in
-unfolding environment choose ◌≫=◌ some check state_of
+unfolding environment state_of
 returns-then-not-is_in g c =
     let l : List ℕ = g.B.Bank.bytes c.args.self.now.bank in
     let current = c.shown-current.ensures.value l in
     search rules
 
 pub returns : goal.returns
-unfolding environment choose ◌≫=◌ some check state_of
+unfolding environment state_of
 returns g c =
     let l : List ℕ = g.B.Bank.bytes c.args.self.now.bank in
     let current = c.shown-current.ensures.value l in

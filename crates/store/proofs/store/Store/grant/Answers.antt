@@ -5,11 +5,11 @@ use Rattle.rules.specs.Tests.{◌≫=◌, check, in_range}
 use Rattle.store.proofs.store.Store.grant.Goals as goal
 
 pub returns-in_err-check_loading : goal.returns-in_err-check_loading
-unfolding grant_plan ◌≫=◌ done
+unfolding grant_plan
 returns-in_err-check_loading g c = search rules
 
 pub returns-then-not-may_grant : goal.returns-then-not-may_grant
-unfolding grant_plan ◌≫=◌ check done
+unfolding grant_plan
 returns-then-not-may_grant g c =
     let l : List ℕ = g.B.Bank.bytes c.args.self.now.bank in
     let target = c.entry-target.ensures.value l in
@@ -17,7 +17,7 @@ returns-then-not-may_grant g c =
     search rules
 
 pub returns-in_default : goal.returns-in_default
-unfolding grant_plan ◌≫=◌ check in_range done
+unfolding grant_plan
 returns-in_default g c =
     let l : List ℕ = g.B.Bank.bytes c.args.self.now.bank in
     let target = c.entry-target.ensures.value l in
@@ -26,7 +26,7 @@ returns-in_default g c =
     search rules
 
 pub returns-then-not-grant_numbers : goal.returns-then-not-grant_numbers
-unfolding grant_plan ◌≫=◌ check in_range done
+unfolding grant_plan
 returns-then-not-grant_numbers g c =
     let l : List ℕ = g.B.Bank.bytes c.args.self.now.bank in
     let target = c.entry-target.ensures.value l in
@@ -35,7 +35,7 @@ returns-then-not-grant_numbers g c =
     search rules
 
 pub returns : goal.returns
-unfolding grant_plan ◌≫=◌ check in_range done apply
+unfolding grant_plan
 returns g c =
     let l : List ℕ = g.B.Bank.bytes c.args.self.now.bank in
     let target = c.entry-target.ensures.value l in

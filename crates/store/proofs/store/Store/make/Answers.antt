@@ -13,7 +13,7 @@ use Rattle.store.proofs.Orders.{made_fits, orderly_added}
 use Rattle.store.proofs.store.Store.make.Goals as goal
 
 pub returns-in_default-add : goal.returns-in_default-add
-unfolding making adding new_object room ◌≫=◌ check done
+unfolding making adding new_object
 returns-in_default-add g c =
     let l : List ℕ = g.B.Bank.bytes c.args.self.now.bank in
     let full = not_added c.args.self.now.directory c.add.new.self c.args.table _ (omega arith) c.add.ensures.after l c.in_default-add.ensures.value in

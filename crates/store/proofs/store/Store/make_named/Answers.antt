@@ -12,18 +12,18 @@ use Rattle.store.proofs.Starts.{is_named, not_named}
 use Rattle.store.proofs.store.Store.make_named.Goals as goal
 
 pub returns-then-not-object_numbers : goal.returns-then-not-object_numbers
-unfolding makes in_range ◌≫=◌ check done
+unfolding makes
 returns-then-not-object_numbers g c = search rules
 
 pub returns-then-level-place : goal.returns-then-level-place
-unfolding makes in_range storable ◌≫=◌ check done
+unfolding makes
 returns-then-level-place g c =
     let l : List ℕ = g.B.Bank.bytes c.args.self.now.bank in
     let level = c.level-level.ensures l in
     search rules
 
 pub returns-in_err-index : goal.returns-in_err-index
-unfolding makes naming new_object in_range storable ◌≫=◌ check making
+unfolding makes naming new_object making
 returns-in_err-index g c =
     let l : List ℕ = g.B.Bank.bytes c.args.self.now.bank in
     let s : State = state_of c.args.self.now.directory l in
@@ -34,7 +34,7 @@ returns-in_err-index g c =
     rw (failed, step) (not_named s c.args.task e (place_of c.args.place) 63 c.in_err-index.field-0.0 (state_of c.make.new.self.directory (g.B.Bank.bytes c.make.new.self.bank)) c.in_err-index.ensures.value)
 
 pub returns : goal.returns
-unfolding makes naming new_object in_range storable ◌≫=◌ check making
+unfolding makes naming new_object making
 returns g c =
     let l : List ℕ = g.B.Bank.bytes c.args.self.now.bank in
     let s : State = state_of c.args.self.now.directory l in

@@ -6,17 +6,17 @@ use Rattle.tables.specs.Live.{state_of}
 use Rattle.store.proofs.store.Store.read.Goals as goal
 
 pub returns-in_err-context : goal.returns-in_err-context
-unfolding read_plan ◌≫=◌ done
+unfolding read_plan
 returns-in_err-context g c = search rules
 
 pub returns-in_err-descriptor : goal.returns-in_err-descriptor
-unfolding read_plan ◌≫=◌ done
+unfolding read_plan
 returns-in_err-descriptor g c = search rules
 
 pub returns-then-not-run_fits : goal.returns-then-not-run_fits
-unfolding read_plan ◌≫=◌ in_range check done
+unfolding read_plan
 returns-then-not-run_fits g c = search rules
 
 pub returns : goal.returns
-unfolding read_plan ◌≫=◌ in_range check done apply state_of
+unfolding read_plan state_of
 returns g c = search rules

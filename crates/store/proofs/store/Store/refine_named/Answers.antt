@@ -12,7 +12,7 @@ use Rattle.store.proofs.Orders.{orderly_added}
 use Rattle.store.proofs.store.Store.refine_named.Goals as goal
 
 pub returns-in_default : goal.returns-in_default
-unfolding naming room ◌≫=◌ check done
+unfolding naming
 returns-in_default g c =
     let l : List ℕ = g.B.Bank.bytes c.args.self.now.bank in
     let full = not_added c.args.self.now.directory c.add.new.self c.args.task _ (omega arith) c.add.ensures.after l c.in_default.ensures.value in

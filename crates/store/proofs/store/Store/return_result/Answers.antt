@@ -10,25 +10,25 @@ use Rattle.store.proofs.Orders.{may_leave, nine_stacks, nine_tables, orderly_lef
 use Rattle.store.proofs.store.Store.return_result.Goals as goal
 
 pub returns-in_err-context : goal.returns-in_err-context
-unfolding return_plan ◌≫=◌ done
+unfolding return_plan
 returns-in_err-context g c = search rules
 
 pub returns-in_default : goal.returns-in_default
-unfolding return_plan ◌≫=◌ some done
+unfolding return_plan
 returns-in_default g c =
     let l : List ℕ = g.B.Bank.bytes c.args.self.now.bank in
     let calling = c.calling.ensures l in
     search rules
 
 pub returns-in_err-passed : goal.returns-in_err-passed
-unfolding return_plan ◌≫=◌ some done
+unfolding return_plan
 returns-in_err-passed g c =
     let l : List ℕ = g.B.Bank.bytes c.args.self.now.bank in
     let calling = c.calling.ensures l in
     search rules
 
 pub returns-then-not-is_overwritable : goal.returns-then-not-is_overwritable
-unfolding return_plan ◌≫=◌ some check done
+unfolding return_plan
 returns-then-not-is_overwritable g c =
     let l : List ℕ = g.B.Bank.bytes c.args.self.now.bank in
     let calling = c.calling.ensures l in
@@ -36,7 +36,7 @@ returns-then-not-is_overwritable g c =
     search rules
 
 pub returns-then-level_named-place : goal.returns-then-level_named-place
-unfolding return_plan ◌≫=◌ some check storable done
+unfolding return_plan
 returns-then-level_named-place g c =
     let l : List ℕ = g.B.Bank.bytes c.args.self.now.bank in
     let calling = c.calling.ensures l in
@@ -44,7 +44,7 @@ returns-then-level_named-place g c =
     search rules
 
 pub returns : goal.returns
-unfolding return_plan ◌≫=◌ some check storable done apply can_leave shown entry table state_of
+unfolding return_plan can_leave shown entry table state_of
 returns g c =
     let l : List ℕ = g.B.Bank.bytes c.args.self.now.bank in
     let calling = c.calling.ensures l in

@@ -8,11 +8,11 @@ use Rattle.store.proofs.Orders.{orderly_sealed}
 use Rattle.store.proofs.store.Store.seal.Goals as goal
 
 pub returns-in_err-check_loading : goal.returns-in_err-check_loading
-unfolding seal_plan ◌≫=◌ done
+unfolding seal_plan
 returns-in_err-check_loading g c = search rules
 
 pub returns : goal.returns
-unfolding seal_plan ◌≫=◌ done apply
+unfolding seal_plan
 returns g c = let after = c.seal.ensures (g.B.Bank.bytes c.args.self.now.bank) in search rules
 
 pub invariant_of-self : goal.invariant_of-self

@@ -5,9 +5,9 @@ use Rattle.rules.specs.Operators.{stores}
 use Rattle.store.proofs.store.Store.store.Goals as goal
 
 pub returns-then-level_of-place : goal.returns-then-level_of-place
-unfolding stores storable ◌≫=◌ check done
+unfolding stores
 returns-then-level_of-place g c = search rules
 
 pub returns : goal.returns
-unfolding stores storable ◌≫=◌ check done apply
+unfolding stores
 returns g c = search rules

@@ -5,17 +5,17 @@ use Rattle.rules.specs.Operators.{typed_plan}
 use Rattle.store.proofs.store.Store.typed.Goals as goal
 
 pub returns-in_err-context : goal.returns-in_err-context
-unfolding typed_plan ◌≫=◌ done
+unfolding typed_plan
 returns-in_err-context g c = search rules
 
 pub returns-in_err-control : goal.returns-in_err-control
-unfolding typed_plan ◌≫=◌ done
+unfolding typed_plan
 returns-in_err-control g c = search rules
 
 pub returns-in_err-place : goal.returns-in_err-place
-unfolding typed_plan ◌≫=◌ done
+unfolding typed_plan
 returns-in_err-place g c = search rules
 
 pub returns : goal.returns
-unfolding typed_plan ◌≫=◌
+unfolding typed_plan
 returns g c = search rules

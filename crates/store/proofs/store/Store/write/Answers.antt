@@ -6,17 +6,17 @@ use Rattle.tables.specs.Live.{state_of}
 use Rattle.store.proofs.store.Store.write.Goals as goal
 
 pub returns-in_err-context : goal.returns-in_err-context
-unfolding write_plan ◌≫=◌ done
+unfolding write_plan
 returns-in_err-context g c = search rules
 
 pub returns-in_err-descriptor : goal.returns-in_err-descriptor
-unfolding write_plan ◌≫=◌ done
+unfolding write_plan
 returns-in_err-descriptor g c = search rules
 
 pub returns-then-not-run_fits : goal.returns-then-not-run_fits
-unfolding write_plan ◌≫=◌ in_range check done
+unfolding write_plan
 returns-then-not-run_fits g c = search rules
 
 pub returns : goal.returns
-unfolding write_plan ◌≫=◌ in_range check done apply overwrite state_of
+unfolding write_plan overwrite state_of
 returns g c = search rules

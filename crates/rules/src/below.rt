@@ -1,0 +1,43 @@
+// Numbers below a limit.
+ghost use Rattle.std.specs.Prelude.{◌≡◌, ◌<◌, if◌then◌else◌, Some, None, nat_lt};
+
+use std::marker::Model;
+
+// A number below N.
+#[derive(Clone, Copy, Debug, PartialEq, Eq)]
+pub struct Below<const N: u16> {
+    number: u16,
+}
+
+impl<const N: u16> Model for Below<N> {
+    ghost use Rattle.std.specs.Prelude.{ℕ, ◌<◌};
+
+    ghost Value = { ℕ };
+
+    ghost view = { λ b. b.number };
+
+    ghost invariant = { λ b. b.number < N };
+
+    ghost inverse = { λ n. record { number = n } };
+}
+
+impl<const N: u16> Below<N> {
+    pub fn new(number: u32) -> Option<Below<N>>
+        ensures { result ≡ (if nat_lt number N then Some number else None) }
+    {
+        if number < N as u32 {
+            Some(Below {
+                number: number as u16,
+            })
+        } else {
+            None
+        }
+    }
+
+    pub fn get(&self) -> u16
+        ensures value { result ≡ self.now }
+        ensures below { result < N }
+    {
+        self.number
+    }
+}
