@@ -1,4 +1,1 @@
-pub mod Space
 pub mod States
-pub mod Takes
-pub mod Stacks

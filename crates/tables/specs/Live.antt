@@ -1,23 +1,13 @@
--- What the structs of the store stand for. Assumes nothing.
-use Rattle.std.specs.Prelude.{ℕ, ◌-◌, ◌*◌, Bool, ◌&&◌, List, map, reverse, take, nat_le, nat_lt}
-use Rattle.rules.specs.State.{State, Table as Listed, block_start, level, shown, table, takes}
+-- What a directory stands for. Assumes nothing.
+use Rattle.std.specs.Prelude.{ℕ, ◌-◌, ◌*◌, Bool, ◌&&◌, List, nat_le, nat_lt}
+use Rattle.rules.specs.State.{State, block_start, level, shown, table, takes}
 use Rattle.rules.specs.Tests.{has_room}
 use Rattle.rules.specs.declared.entry.Entry.{Entry}
 use Rattle.tables.specs.declared.directory.Directory.{Directory}
-use Rattle.tables.specs.declared.stack.Stack.{Stack}
-use Rattle.tables.specs.declared.table.Table.{Table}
-
--- the live entries of a table are the first ones of its array
-abbrev pub table_of : Table → Listed
-table_of t = record { entries = take t.count t.entries; claim = t.claim }
-
--- the open contexts of a task, the current one first
-abbrev pub stack_of : Stack → List ℕ
-stack_of k = reverse (take k.level k.contexts)
 
 -- the state of a store with this directory, whose bank means this list
-unfoldable pub state_of : Directory → List ℕ → State
-state_of d l = record { tables = map table_of d.tables; stacks = map stack_of d.stacks; sealed = d.sealed; bytes = l }
+abbrev pub state_of : Directory → List ℕ → State
+state_of d l = record { tables = d.tables; stacks = d.stacks; sealed = d.sealed; bytes = l }
 
 -- there are such a table and room in it for an entry
 unfoldable pub can_add : State → ℕ → Entry → Bool

@@ -1,14 +1,86 @@
 // One table: its entries in order of making, and how many bytes of its block are taken.
-ghost use Rattle.std.specs.Prelude.{◌≡◌, ◌≤◌, length};
+ghost use Rattle.std.specs.Prelude.{◌≡◌, ◌<◌, ◌≤◌, [], ◌∷◌, ◌++◌, length, if◌then◌else◌, take, Some, None, OnSome};
+ghost use Rattle.std.specs.List.{slice_get};
+ghost use Rattle.rules.specs.Effects.{grown};
+ghost use Rattle.rules.specs.State.{no_table, takes};
+ghost use Rattle.rules.specs.Tests.{has_room};
 
-use rules::entry::Entry;
+use crate::bounded::BoundedList;
+use rules::below::Below;
+use rules::entry::{Entry, TypeControl};
+use rules::kind::Kind;
+use std::marker::Model;
 
-#[derive(Clone, Copy)]
+pub(crate) const BLOCK: u32 = 2048;
+
+#[derive(Drop)]
 pub struct Table {
-    pub(crate) entries: [Entry; 64],
-    pub(crate) count: usize,
-    pub(crate) claim: u32,
-    ghost wide: { length entries ≡ 64 },
-    ghost few: { count ≤ 64 },
-    ghost claimed: { claim ≤ 2048 },
+    entries: BoundedList<Entry, 64>,
+    claim: u32,
+}
+
+impl Model for Table {
+    ghost use Rattle.std.specs.Prelude.{◌≤◌};
+    ghost use Rattle.rules.specs.State.{Table as Listed};
+
+    ghost Value = { Listed };
+
+    ghost view = { λ t. record { entries = t.entries; claim = t.claim } };
+
+    ghost invariant = { λ t. t.claim ≤ 2048 };
+}
+
+impl Table {
+    pub(crate) fn new() -> Table
+        ensures { result ≡ no_table }
+    {
+        let blank = Entry::Control(TypeControl {
+            kind: Kind::GENERIC,
+            rights: 0,
+        });
+        Table {
+            entries: BoundedList::new(blank),
+            claim: 0,
+        }
+    }
+
+    pub(crate) fn entry(&self, index: u32) -> Option<Entry>
+        ensures value { result ≡ slice_get self.now.entries index }
+        ensures bound { OnSome result (index < 64) }
+    {
+        self.entries.get(index as usize)
+    }
+
+    // How many bytes of the block are taken.
+    pub(crate) fn claim(&self) -> u32
+        ensures value { result ≡ self.now.claim }
+        ensures within { result ≤ 2048 }
+    {
+        self.claim
+    }
+
+    // Adds an entry and answers its index, if there is room for it.
+    #[tactic(auto, unfolding(rules::specs::Effects::grown, rules::specs::Tests::has_room))]
+    pub(crate) fn add(&mut self, entry: Entry) -> Option<Below<64>>
+        ensures value { result ≡ (if has_room self.old (takes entry) then Some (length self.old.entries) else None) }
+        ensures after { self.new ≡ (if has_room self.old (takes entry) then grown self.old entry else self.old) }
+    {
+        let bytes = entry.takes();
+        if bytes > BLOCK - self.claim {
+            return None;
+        }
+        let index = Below::new(self.entries.len() as u32)?;
+        self.entries.push(entry);
+        self.claim += bytes;
+        Some(index)
+    }
+
+    // Keeps the first entries, and sets how many bytes are taken.
+    pub(crate) fn cut(&mut self, count: usize, claim: u32)
+        requires { claim ≤ 2048 }
+        ensures { self.new ≡ record { entries = take count self.old.entries; claim = claim } }
+    {
+        self.entries.truncate(count);
+        self.claim = claim;
+    }
 }

@@ -1,10 +1,16 @@
-use Rattle.std.proofs.Common.{◌-◌, sym, ap, arith}
+use Rattle.std.proofs.Common.{◌≡◌, ℕ, ◌+◌, ◌-◌, List, [], ◌∷◌, length, get_or, reverse, take, refl, sym, ap, ◌∙◌, arith}
+use Rattle.std.proofs.lemmas.List.{take_all, take_more, reverse-append}
+use native.Mathlib.Numerals.{unary_clauses}
 use Rattle.rules.specs.Effects.{popped}
-use Rattle.tables.specs.declared.stack.Stack.{Stack}
-use Rattle.tables.proofs.Stacks.{height, top}
 use Rattle.tables.proofs.stack.Stack.pop.Goals as goal
 
+-- the last item is the first from the end
+but_last : (xs : List ℕ) → reverse (take (length xs - 1) xs) ≡ popped (reverse xs)
+but_last [] = refl
+but_last (x ∷ xs) =
+    let n : ℕ = length xs in
+    let all : take (n + 1) (x ∷ xs) ≡ x ∷ xs = take_all (n + 1) (x ∷ xs) (omega arith) in
+    simp unary_clauses (sym (ap popped (ap reverse (sym all ∙ take_more (x ∷ xs) n 0 (omega arith)) ∙ reverse-append (take n (x ∷ xs)) (get_or (x ∷ xs) n 0 ∷ []))))
+
 pub returns : goal.returns
-returns c =
-    let k : Stack = c.args.self.now in
-    sym (ap popped (top k.contexts (k.level - 1) k.level (omega (arith, height k)) (omega (arith, height k))))
+returns c = rw (c.truncate.ensures, c.saturating_sub-kept.ensures, c.len.ensures.value, ← c.self.view_is) (but_last c.self.inside.contexts)

@@ -1,0 +1,82 @@
+// Lists of a bounded length that lie in the value itself.
+ghost use Rattle.std.specs.Prelude.{◌≡◌, ◌<◌, ◌≤◌, List, [], ◌∷◌, ◌++◌, length, reverse, take, OnSome};
+ghost use Rattle.std.specs.List.{slice_get};
+
+use std::marker::Model;
+
+// A list of at most N items: the first `count` of an array. A store allocates nothing, so that a Vec is out, and the items
+// past the end are whatever was there, so that cutting the list costs nothing.
+#[derive(Drop)]
+pub struct BoundedList<T: Copy, const N: usize> {
+    items: [T; N],
+    count: usize,
+}
+
+impl<T: Copy, const N: usize> Model for BoundedList<T, N> {
+    ghost use Rattle.std.specs.Prelude.{◌≡◌, ◌≤◌, List, length, take};
+    ghost use Rattle.std.specs.Coded.{coded_list};
+
+    ghost Value = { List T };
+
+    ghost coded = { coded_list T.code };
+
+    ghost view = { λ l. take l.count l.items };
+
+    ghost invariant = { λ l. (l.count ≤ N) × (length l.items ≡ N) };
+}
+
+impl<T: Copy, const N: usize> BoundedList<T, N> {
+    // An empty list, whose places hold the given item.
+    pub fn new(blank: T) -> BoundedList<T, N>
+        ensures { result ≡ [] }
+    {
+        BoundedList {
+            items: [blank; N],
+            count: 0,
+        }
+    }
+
+    pub fn len(&self) -> usize
+        ensures value { result ≡ length self.now }
+        ensures within { result ≤ N }
+    {
+        self.count // of the items, not of the places
+    }
+
+    pub fn get(&self, index: usize) -> Option<T>
+        ensures value { result ≡ slice_get self.now index }
+        ensures within { OnSome result (index < N) }
+    {
+        if index < self.count {
+            Some(self.items[index])
+        } else {
+            None
+        }
+    }
+
+    // The item that stands so many places before the last one.
+    pub fn from_end(&self, places: usize) -> Option<T>
+        ensures { result ≡ slice_get (reverse self.now) places }
+    {
+        if places < self.count {
+            Some(self.items[self.count - 1 - places])
+        } else {
+            None
+        }
+    }
+
+    pub fn push(&mut self, item: T)
+        requires { length self.old < N }
+        ensures { self.new ≡ self.old ++ item ∷ [] }
+    {
+        self.items[self.count] = item;
+        self.count += 1;
+    }
+
+    // Keeps the first items.
+    pub fn truncate(&mut self, count: usize)
+        ensures { self.new ≡ take count self.old }
+    {
+        self.count = self.count.min(count);
+    }
+}
