@@ -1,5 +1,5 @@
 // Numbers below a limit.
-ghost use Rattle.std.specs.Prelude.{◌≡◌, ◌<◌, if◌then◌else◌, Some, None, nat_lt};
+ghost use Rattle.std.specs.Prelude.{◌≡◌, ◌<◌, ◌%◌, if◌then◌else◌, Some, None, nat_lt};
 
 use std::marker::Model;
 
@@ -31,6 +31,16 @@ impl<const N: u16> Below<N> {
             })
         } else {
             None
+        }
+    }
+
+    // What is left of a number when it is divided by N.
+    pub fn low(number: u32) -> Below<N>
+        requires { 0 < N }
+        ensures { result ≡ number % N }
+    {
+        Below {
+            number: (number % N as u32) as u16,
         }
     }
 

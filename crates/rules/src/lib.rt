@@ -11,3 +11,4 @@ mod places;
 pub mod right;
 pub mod rights;
 pub mod shown;
+pub mod words;

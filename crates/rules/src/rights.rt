@@ -1,5 +1,5 @@
 // Sets of rights.
-ghost use Rattle.std.specs.Prelude.{◌≡◌, ◌<◌, if◌then◌else◌, Some, None, nat_le};
+ghost use Rattle.std.specs.Prelude.{◌≡◌, ◌<◌, ◌%◌, if◌then◌else◌, Some, None, nat_le};
 ghost use Rattle.rules.specs.Code.{weight};
 ghost use Rattle.rules.specs.State.{has};
 
@@ -35,6 +35,15 @@ impl Rights {
             Some(Rights { sum: sum as u8 })
         } else {
             None
+        }
+    }
+
+    // The rights that the six lowest bits of a number stand for.
+    pub fn low(number: u32) -> Rights
+        ensures { result ≡ number % 64 }
+    {
+        Rights {
+            sum: (number % 64) as u8,
         }
     }
 
