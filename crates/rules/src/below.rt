@@ -1,5 +1,5 @@
 // Numbers below a limit.
-ghost use Rattle.std.specs.Prelude.{◌≡◌, ◌<◌, ◌%◌, if◌then◌else◌, Some, None, nat_lt};
+ghost use Rattle.std.specs.Prelude.{◌≡◌, ◌<◌, ◌≤◌, ◌%◌, if◌then◌else◌, Some, None, nat_lt};
 
 use std::marker::Model;
 
@@ -41,6 +41,16 @@ impl<const N: u16> Below<N> {
     {
         Below {
             number: (number % N as u32) as u16,
+        }
+    }
+
+    // The same number, below a limit that is not smaller.
+    pub fn widen<const M: u16>(&self) -> Below<M>
+        requires { N ≤ M }
+        ensures { result ≡ self.now }
+    {
+        Below {
+            number: self.number,
         }
     }
 

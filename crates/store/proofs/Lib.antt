@@ -1,4 +1,2 @@
 pub mod Additions
 pub mod Orders
-pub mod Outcomes
-pub mod Starts

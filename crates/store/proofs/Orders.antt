@@ -1,8 +1,8 @@
 -- The order of tables and stacks that the operators rely on, and how it lasts.
 -- Assumes nothing.
 use Rattle.std.proofs.Common.{◌≡◌, ◌≢◌, ◌⊎◌, ℕ, zero, suc, ◌+◌, ◌-◌, ◌*◌, ◌<◌, ◌≤◌, Bool, true, false, cond, ◌&&◌, ltb, leb, List, [], ◌∷◌, ◌++◌, length, get_or, take, replicate, Some, None, Option, sym, refl, ◌∙◌, subst, inl, inr, arith, length-append}
-use Rattle.std.proofs.lemmas.Bool.{and_parts, cases_lt, lt-ltb, ltb-true, le-leb}
-use Rattle.std.proofs.lemmas.List.{get_or-set_other, get_or-set_same, length-map, length-take-le}
+use Rattle.std.proofs.lemmas.Bool.{and_parts, cases_lt, lt-ltb, ltb-true, le-leb, leb-true}
+use Rattle.std.proofs.lemmas.List.{get_or-set_other, get_or-set_same, length-take-le}
 use Rattle.std.specs.List.{slice_get}
 use Rattle.rules.specs.declared.entry.Entry.{Entry}
 use Rattle.rules.specs.declared.entry.Entry.TheVariants.{Object, Control, Refined}
@@ -11,7 +11,7 @@ use Rattle.rules.specs.State.{State, Table, block_start, empty, entry, no_table,
 use Rattle.rules.specs.Tests.{current, has_room}
 use Rattle.rules.specs.Effects.{grown, leave, popped, sealing, with_stack, with_table}
 use Rattle.tables.specs.declared.directory.Directory.{Directory}
-use Rattle.tables.specs.Live.{can_add, can_enter, can_leave, stack_of, state_of, table_of}
+use Rattle.tables.specs.Live.{can_add, can_enter, can_leave, state_of}
 use Rattle.store.specs.Orderly.{IsOrderly, all_fit, are_contexts, fits_table, is_object}
 
 -- tables of entries that fit
@@ -144,12 +144,10 @@ module _ (s : State) (q : ℕ) (cs : List ℕ) where
   new_stack h = get_or-set_same s.stacks q cs [] h
 
 pub nine_tables : (d : Directory) (l : List ℕ) → length (state_of d l).tables ≡ 9
-unfolding state_of
-nine_tables d l = length-map d.tables table_of ∙ d.nine
+nine_tables d l = d.nine
 
 pub nine_stacks : (d : Directory) (l : List ℕ) → length (state_of d l).stacks ≡ 9
-unfolding state_of
-nine_stacks d l = length-map d.stacks stack_of ∙ d.each
+nine_stacks d l = d.each
 
 -- an entry added, if there is room for it, which then fits its table
 pub orderly_added : (d d' : Directory) (t : ℕ) (e : Entry) → IsOrderly (state_of d []) →
@@ -270,3 +268,10 @@ all_default (suc n) (suc i) x = all_default n i x
 pub orderly_empty : (l : List ℕ) → IsOrderly (empty l)
 unfolding empty table stack all_fit are_contexts
 orderly_empty l = record { entries = λ t. rw (all_default 9 t no_table); contexts = λ q. rw (all_default {X = List ℕ} 9 q []) }
+
+-- room in a table, as numbers
+pub room_is : (x : Table) (n : ℕ) → has_room x n ≡ true → (length x.entries < 64) × (x.claim + n ≤ 2048)
+unfolding has_room
+room_is x n h =
+    let both : (ltb (length x.entries) 64 ≡ true) × (leb (x.claim + n) 2048 ≡ true) = and_parts (ltb (length x.entries) 64) (leb (x.claim + n) 2048) h in
+    (ltb-true (length x.entries) 64 both.0, leb-true (x.claim + n) 2048 both.1)

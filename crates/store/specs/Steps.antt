@@ -1,20 +1,18 @@
--- The last test of a call that takes room, and its effect. Assumes nothing.
-use Rattle.std.specs.Prelude.{ℕ, ◌*◌, Ok, Result}
-use Rattle.rules.specs.declared.entry.Entry.{Entry}
+-- The last tests of a refinement, and its effect. Assumes nothing.
+use Rattle.std.specs.Prelude.{ℕ, ◌&&◌, Ok, Result}
 use Rattle.rules.specs.declared.fault.Fault.{Fault}
+use Rattle.rules.specs.declared.shown.Descriptor.{Descriptor}
 use Rattle.rules.specs.declared.shown.Place.{Place}
-use Rattle.rules.specs.State.{State, takes}
-use Rattle.rules.specs.Tests.{◌≫=◌, room}
-use Rattle.rules.specs.Effects.{Planned, add_named, open_context}
+use Rattle.rules.specs.State.{State, level, shown}
+use Rattle.rules.specs.Tests.{◌≫=◌, fits, in_range, room, storable}
+use Rattle.rules.specs.Effects.{Planned, add_named}
+use Rattle.rules.specs.Operators.{refined}
+use Rattle.store.specs.declared.extent.Runs.{Runs}
 
--- the adding of an entry to the task's own table, named in a slot
-unfoldable pub naming : State → ℕ → Entry → Place → ℕ → Result (Planned (Unit {0})) Fault
-naming s q e l rights =
-    room s q (takes e) q ≫= λ _.
-    Ok (record { answer = tt; effect = add_named q e l rights })
-
--- the opening of a context with a word in its slot 0
-unfoldable pub opening : State → ℕ → ℕ → ℕ → Result (Planned (Unit {0})) Fault
-opening s q k w =
-    room s q (4 * k) q ≫= λ _.
-    Ok (record { answer = tt; effect = open_context q k w })
+-- the naming of runs of what a descriptor shows, once its slot and the destination have been found
+unfoldable pub refining : State → ℕ → Descriptor → Place → Runs → Result (Planned (Unit {0})) Fault
+refining s q d l r =
+    in_range (fits r.byte r.bytes (shown s d.table d.index).bytes && fits r.slot r.slots (shown s d.table d.index).slots) q ≫= λ _.
+    storable (level s q) l q ≫= λ _.
+    room s q 0 q ≫= λ _.
+    Ok (record { answer = tt; effect = add_named q (refined (shown s d.table d.index) r.byte r.bytes r.slot r.slots (level s q)) l d.rights })

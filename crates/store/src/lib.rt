@@ -1,11 +1,11 @@
 // The object store over a bank.
 #![tactic(auto)]
 
-mod checks;
+mod caller;
 mod descriptors;
+mod extent;
 mod load;
 mod making;
-mod operand;
 mod operators;
 mod ranges;
 mod selectors;

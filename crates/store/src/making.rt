@@ -1,126 +1,178 @@
-// How entries are made, contexts opened and words stored, once the tests before have passed.
-ghost use Rattle.std.specs.Prelude.{◌≡◌, ◌+◌, ◌*◌, ◌<◌, ◌≤◌, true, IfOk};
-ghost use Rattle.rules.specs.Code.{place_of};
-ghost use Rattle.rules.specs.Effects.{done};
-ghost use Rattle.rules.specs.Loading.{starting};
+// How entries are made, contexts opened and closed, and words stored, once the tests before have passed.
+ghost use Rattle.std.specs.Prelude.{◌≡◌, ◌+◌, ◌*◌, ◌<◌, true, if◌then◌else◌, Ok, Err, Some, None};
+ghost use Rattle.rules.specs.Effects.{add, done, enter, leave, new_object, next_index, overwrite, put, first_slot};
 ghost use Rattle.rules.specs.Operators.{makes, stores};
-ghost use Rattle.rules.specs.State.{entry as entry_at, level as level_of};
-ghost use Rattle.rules.specs.Tests.{level_by};
-ghost use Rattle.store.specs.Fields.{Encodable};
+ghost use Rattle.rules.specs.State.{encode, level as level_of, stack as stack_at, table as table_at, takes, word_bytes};
+ghost use Rattle.rules.specs.Tests.{current as current_of, has_room, refusal};
+ghost use Rattle.rules.specs.declared.fault.Reason.TheVariants.{NoRoom};
 ghost use Rattle.store.specs.Orderly.{fits_table};
-ghost use Rattle.store.specs.Steps.{naming, opening};
-ghost use Rattle.tables.specs.Live.{state_of};
+ghost use Rattle.store.specs.Steps.{refining};
 
-use crate::load::refusal_of;
-use crate::ranges;
+use crate::caller::{Caller, refusal_of};
+use crate::extent::{ContextSlots, Extent, Runs};
 use crate::store::Store;
-use crate::words::word_of;
 use bank::Bank;
-use rules::entry::{Entry, Refinement};
+use rules::below::Below;
+use rules::entry::{Entry, Refinement, Storage};
 use rules::fault::{Fault, Reason};
+use rules::kind::Kind;
+use rules::rights::Rights;
 use rules::shown::{Descriptor, Place};
 
-const ALL_RIGHTS: u8 = 63;
-
 impl<B: Bank> Store<B> {
-    // Makes a context of a task at the level above this one, opens it and answers its index.
-    pub(crate) fn open(&mut self, task: u32, slots: u32, level: u8) -> Result<u32, Fault>
-        requires { (task < 9) × ((slots ≤ 64) × ((level < 8) × (level_of (state_of self.old.directory (B.bytes self.old.bank)) task ≡ level))) }
-        ensures { (result, state_of self.new.directory (B.bytes self.new.bank)) ≡ done (state_of self.old.directory (B.bytes self.old.bank)) (starting (state_of self.old.directory (B.bytes self.old.bank)) task slots) }
+    // Makes a storage object in a table, all its bytes 0, and answers its index.
+    pub(crate) fn make(
+        &mut self,
+        table: Below<9>,
+        extent: Extent,
+        kind: Kind,
+        level: u8,
+        task: u32,
+    ) -> Result<Below<64>, Fault>
+        ensures value { result ≡ (if has_room (table_at self.old table) (4 * extent.slots + extent.bytes) then Ok (next_index self.old table) else Err (refusal NoRoom task)) }
+        ensures after { self.new ≡ (if has_room (table_at self.old table) (4 * extent.slots + extent.bytes) then add table (new_object self.old table extent.bytes extent.slots kind level) self.old else self.old) }
     {
-        let index = self.make(task, 0, slots, 1, level + 1, task)?;
-        self.directory.enter(task, index);
+        let number = table.get() as u32;
+        let Some(start) = self.directory.start(number) else {
+            return Err(refusal_of(Reason::NoRoom, task));
+        };
+        let object = Storage {
+            base: extent.base(start),
+            bytes: extent.bytes.get(),
+            slots: extent.slots.get(),
+            kind,
+            level,
+        };
+        let Some(index) = self.directory.add(number, Entry::Object(object)) else {
+            return Err(refusal_of(Reason::NoRoom, task));
+        };
+        self.bank.clear_run(start, extent.takes());
+        Ok(index)
+    }
+
+    // Adds an entry that takes no bytes to a table and answers its index, if there is room for it.
+    pub(crate) fn add(&mut self, table: Below<9>, entry: Entry) -> Option<Below<64>>
+        requires empty { takes entry ≡ 0 }
+        requires fits { fits_table table entry ≡ true }
+        ensures value { result ≡ (if has_room (table_at self.old table) 0 then Some (next_index self.old table) else None) }
+        ensures after { self.new ≡ (if has_room (table_at self.old table) 0 then add table entry self.old else self.old) }
+    {
+        self.directory.add(table.get() as u32, entry)
+    }
+
+    // Makes a context of a task at the next level, opens it and answers its index.
+    pub(crate) fn open(&mut self, task: Below<9>, slots: ContextSlots) -> Result<Below<64>, Fault>
+        requires { level_of self.old task < 8 }
+        ensures value { result ≡ (if has_room (table_at self.old task) (4 * slots) then Ok (next_index self.old task) else Err (refusal NoRoom task)) }
+        ensures after { self.new ≡ (if has_room (table_at self.old task) (4 * slots) then enter task slots self.old else self.old) }
+    {
+        let number = task.get() as u32;
+        let level = self.directory.level(number) as u8 + 1;
+        let index = self.make(task, slots.extent(), Kind::CONTEXT, level, number)?;
+        self.directory.enter(number, index.get() as u32);
         Ok(index)
     }
 
     // Opens a context with a word in its slot 0.
     pub(crate) fn open_with(
         &mut self,
-        task: u32,
-        slots: u32,
-        level: u8,
+        task: Below<9>,
+        slots: ContextSlots,
         word: u32,
     ) -> Result<(), Fault>
-        requires { (task < 9) × ((4 ≤ slots) × ((slots ≤ 64) × ((level < 8) × (level_of (state_of self.old.directory (B.bytes self.old.bank)) task ≡ level)))) }
-        ensures { (result, state_of self.new.directory (B.bytes self.new.bank)) ≡ done (state_of self.old.directory (B.bytes self.old.bank)) (opening (state_of self.old.directory (B.bytes self.old.bank)) task slots word) }
+        requires { level_of self.old task < 8 }
+        ensures value { result ≡ (if has_room (table_at self.old task) (4 * slots) then Ok tt else Err (refusal NoRoom task)) }
+        ensures after { self.new ≡ (if has_room (table_at self.old task) (4 * slots) then overwrite (first_slot self.old task slots) (word_bytes word) (enter task slots self.old) else self.old) }
     {
-        let Some(start) = self.directory.start(task) else {
-            return Err(refusal_of(Reason::NoRoom, task));
+        let Some(start) = self.directory.start(task.get() as u32) else {
+            return Err(refusal_of(Reason::NoRoom, task.get() as u32));
         };
-        self.open(task, slots, level)?;
-        self.bank
-            .write_run(start + 4 * slots - 4, &word.to_le_bytes());
+        self.open(task, slots)?;
+        self.overwrite(start + 4 * slots.get() as u32 - 4, &word.to_le_bytes());
         Ok(())
     }
 
-    // The level of the entry that a descriptor names.
-    pub(crate) fn level_of(&self, d: Descriptor) -> u8
-        ensures { result ≡ level_by (entry_at (state_of self.now.directory (B.bytes self.now.bank)) d.table d.index) }
+    // Closes the current context of a task.
+    pub(crate) fn close(&mut self, task: Below<9>, context: u32)
+        requires { current_of (stack_at self.old task) ≡ Some context }
+        ensures { self.new ≡ leave task context self.old }
     {
-        ranges::level_of(self.directory.entry(d.table as u32, d.index as u32))
+        self.directory.leave(task.get() as u32, context);
     }
 
     // Stores a descriptor in a slot.
-    pub(crate) fn store(&mut self, task: u32, d: Descriptor, place: Place) -> Result<(), Fault>
-        requires { Encodable d }
-        ensures { (result, state_of self.new.directory (B.bytes self.new.bank)) ≡ done (state_of self.old.directory (B.bytes self.old.bank)) (stores (state_of self.old.directory (B.bytes self.old.bank)) task d (place_of place)) }
+    #[tactic(auto, unfolding(rules::specs::Operators::stores))]
+    pub(crate) fn store(&mut self, caller: Caller, d: Descriptor, place: Place) -> Result<(), Fault>
+        ensures { (result, self.new) ≡ done self.old (stores self.old caller.task d place) }
     {
-        if self.level_of(d) > place.by.level {
-            return Err(refusal_of(Reason::StoringRule, task));
-        }
-        self.put(place.by, place.at, word_of(d));
+        caller.demand(self.level_of(&d) <= place.by.level, Reason::StoringRule)?;
+        self.put(place, u32::from(d));
         Ok(())
     }
 
     // Makes a storage object of a task at its level, named with all rights in a slot.
+    #[tactic(auto, unfolding(rules::specs::Operators::makes))]
     pub(crate) fn make_named(
         &mut self,
-        task: u32,
+        caller: Caller,
         place: Place,
         size: u32,
         slots: u32,
-        kind: u8,
+        kind: Kind,
     ) -> Result<(), Fault>
-        requires { task < 9 }
-        ensures { (result, state_of self.new.directory (B.bytes self.new.bank)) ≡ done (state_of self.old.directory (B.bytes self.old.bank)) (makes (state_of self.old.directory (B.bytes self.old.bank)) task (place_of place) size slots kind) }
+        ensures { (result, self.new) ≡ done self.old (makes self.old caller.task place size slots kind) }
     {
-        if !ranges::object_numbers(size, slots) {
-            return Err(refusal_of(Reason::OutOfRange, task));
-        }
-        let level = self.directory.level(task);
-        if level > place.by.level as u32 {
-            return Err(refusal_of(Reason::StoringRule, task));
-        }
-        let index = self.make(task, size, slots, kind, level as u8, task)?;
-        let named = Descriptor {
-            table: task as u16,
-            index: index as u16,
-            rights: ALL_RIGHTS,
+        let Some(extent) = Extent::new(size, slots) else {
+            return Err(caller.refusal(Reason::OutOfRange));
         };
-        self.put(place.by, place.at, word_of(named));
+        let level = self.level(caller.task);
+        caller.demand(level <= place.by.level as u32, Reason::StoringRule)?;
+        let index = self.make(caller.table(), extent, kind, level as u8, caller.task)?;
+        self.name(caller.table(), index, Rights::ALL, place);
         Ok(())
     }
 
-    // Adds a refinement to the table of a task, named in a slot.
+    // Adds a refinement that shows runs of what a descriptor shows to the table of a task, named in a slot with the
+    // descriptor's rights.
+    #[tactic(auto, unfolding(crate::specs::Steps::refining))]
     pub(crate) fn refine_named(
         &mut self,
-        task: u32,
+        caller: Caller,
+        source: Descriptor,
         place: Place,
-        part: Refinement,
-        rights: u8,
+        runs: Runs,
     ) -> Result<(), Fault>
-        requires { (task < 9) × ((rights < 64) × (fits_table task (Entry.Refined part) ≡ true)) }
-        ensures { (result, state_of self.new.directory (B.bytes self.new.bank)) ≡ done (state_of self.old.directory (B.bytes self.old.bank)) (naming (state_of self.old.directory (B.bytes self.old.bank)) task (Entry.Refined part) (place_of place) rights) }
+        ensures { (result, self.new) ≡ done self.old (refining self.old caller.task source place runs) }
     {
-        let Some(index) = self.directory.add(task, Entry::Refined(part)) else {
-            return Err(refusal_of(Reason::NoRoom, task));
+        let shown = self.shown(source.table.get() as u32, source.index.get() as u32);
+        caller.demand(runs.lie_within(shown), Reason::OutOfRange)?;
+        let level = self.level(caller.task);
+        caller.demand(level <= place.by.level as u32, Reason::StoringRule)?;
+        let part = Refinement {
+            table: shown.owner as u8,
+            index: shown.object as u8,
+            byte: shown.byte + runs.byte as u16,
+            bytes: runs.bytes as u16,
+            slot: shown.slot + runs.slot as u16,
+            slots: runs.slots as u16,
+            level: level as u8,
         };
+        let Some(index) = self.add(caller.table(), Entry::Refined(part)) else {
+            return Err(caller.refusal(Reason::NoRoom));
+        };
+        self.name(caller.table(), index, source.rights, place);
+        Ok(())
+    }
+
+    // Names an entry in a slot.
+    fn name(&mut self, table: Below<9>, index: Below<64>, rights: Rights, place: Place)
+        ensures { self.new ≡ put place (encode (record { table = table; index = index; rights = rights })) self.old }
+    {
         let named = Descriptor {
-            table: task as u16,
-            index: index as u16,
+            table: table.widen(),
+            index: index.widen(),
             rights,
         };
-        self.put(place.by, place.at, word_of(named));
-        Ok(())
+        self.put(place, u32::from(named));
     }
 }

@@ -1,10 +1,10 @@
 // The selector layer: what the environment of a selector shows, and the slot there that it names.
-ghost use Rattle.rules.specs.Code.{placed, weight};
-ghost use Rattle.rules.specs.Tests.{environment, resolve};
-ghost use Rattle.tables.specs.Live.{state_of};
-ghost use Rattle.std.specs.Prelude.{◌≡◌};
+ghost use Rattle.rules.specs.Code.{weight};
+ghost use Rattle.rules.specs.State.{stack as stack_at};
+ghost use Rattle.rules.specs.Tests.{current as current_of, environment, operator, resolve};
+ghost use Rattle.std.specs.Prelude.{◌≡◌, IfOk, IfErr, Ok, Err, Some};
 
-use crate::operand::Operand;
+use crate::caller::{Caller, Operand, demand, refusal_of};
 use crate::store::Store;
 use bank::Bank;
 use rules::fault::{Fault, Reason};
@@ -12,10 +12,26 @@ use rules::right::Right;
 use rules::shown::{Place, Shown};
 
 impl<B: Bank> Store<B> {
-    fn environment(&self, right: Right, operand: Operand) -> Result<Shown, Fault>
-        ensures { result ≡ environment (weight right) (state_of self.now.directory (B.bytes self.now.bank)) operand.task operand.context operand.place operand.selector }
+    // A task, with its current context, if its operators may come.
+    #[tactic(auto, unfolding(rules::specs::Tests::operator))]
+    pub(crate) fn caller(&self, task: u32) -> Result<Caller, Fault>
+        ensures ok { IfOk result (λ c. (c.task ≡ task) × (operator self.now task ≡ Ok c.context)) }
+        ensures opened { IfOk result (λ c. current_of (stack_at self.now task) ≡ Some c.context) }
+        ensures err { IfErr result (λ f. operator self.now task ≡ Err f) }
     {
-        let current = self.directory.shown(operand.task, operand.context);
+        demand(self.has_large_bank(), Reason::SmallBank, task)?;
+        demand(self.is_sealed(), Reason::WrongPhase, task)?;
+        let Some(context) = self.current(task) else {
+            return Err(refusal_of(Reason::NoTask, task));
+        };
+        Ok(Caller { task, context })
+    }
+
+    #[tactic(auto, unfolding(rules::specs::Tests::environment))]
+    fn environment(&self, right: Right, operand: Operand) -> Result<Shown, Fault>
+        ensures { result ≡ environment (weight right) self.now operand.task operand.context operand.place operand.selector }
+    {
+        let current = self.shown(operand.task, operand.context);
         let slot = operand.selector % 4;
         if slot == 0 {
             return Ok(current);
@@ -23,18 +39,16 @@ impl<B: Bank> Store<B> {
         let Some(descriptor) = self.named(self.word_at(current.slot_at(slot))) else {
             return Err(operand.refusal(Reason::NullEnvironment));
         };
-        if !right.is_in(descriptor.rights) {
+        if !descriptor.rights.contains(right) {
             return Err(operand.refusal(Reason::EnvironmentRight));
         }
-        Ok(
-            self.directory
-                .shown(descriptor.table as u32, descriptor.index as u32),
-        )
+        Ok(self.shown_of(&descriptor))
     }
 
     // The slot that an operand names, where its environment gives a right.
+    #[tactic(auto, unfolding(rules::specs::Tests::resolve))]
     pub(crate) fn resolve(&self, right: Right, operand: Operand) -> Result<Place, Fault>
-        ensures { placed result ≡ resolve (weight right) (state_of self.now.directory (B.bytes self.now.bank)) operand.task operand.context operand.place operand.selector }
+        ensures { result ≡ resolve (weight right) self.now operand.task operand.context operand.place operand.selector }
     {
         let by = self.environment(right, operand)?;
         let at = operand.selector / 4;

@@ -1,14 +1,129 @@
 // A store: its directory, and the bank that holds the bytes of its objects.
-ghost use Rattle.std.specs.Prelude.{[]};
-ghost use Rattle.store.specs.Orderly.{IsOrderly};
-ghost use Rattle.tables.specs.Live.{state_of};
+ghost use Rattle.std.specs.Prelude.{◌≡◌, ◌+◌, ◌<◌, OnSome, length, nat_le};
+ghost use Rattle.bank.specs.Runs.{read_run};
+ghost use Rattle.rules.specs.Effects.{overwrite, put};
+ghost use Rattle.rules.specs.Operators.{calling as calling_of};
+ghost use Rattle.rules.specs.State.{empty, entry as entry_at, level as level_of, shown as shown_at, stack as stack_at, word_at};
+ghost use Rattle.rules.specs.Tests.{current as current_of};
 
 use bank::Bank;
+use rules::entry::Entry;
+use rules::shown::{Place, Shown};
+use std::marker::Model;
 use tables::directory::Directory;
+
+const SMALLEST_BANK: u32 = 18432;
 
 #[derive(Drop)]
 pub struct Store<B: Bank> {
     pub(crate) directory: Directory,
     pub(crate) bank: B,
-    ghost orderly: { IsOrderly (state_of directory []) },
+}
+
+// Clauses see the state of the rules.
+impl<B: Bank> Model for Store<B> {
+    ghost use Rattle.std.specs.Prelude.{[]};
+    ghost use Rattle.rules.specs.State.{State};
+    ghost use Rattle.store.specs.Orderly.{IsOrderly};
+    ghost use Rattle.tables.specs.Live.{state_of};
+
+    ghost Value = { State };
+
+    ghost view = { λ s. state_of s.directory (B.bytes s.bank) };
+
+    ghost invariant = { λ s. IsOrderly (state_of s.directory []) };
+}
+
+impl<B: Bank> Store<B> {
+    // A store with empty tables and no task over the bank as it is.
+    pub fn new(bank: B) -> Store<B>
+        ensures { result ≡ empty (B.bytes bank) }
+    {
+        Store {
+            directory: Directory::new(),
+            bank,
+        }
+    }
+
+    pub(crate) fn has_large_bank(&self) -> bool
+        ensures { result ≡ nat_le 18432 (length self.now.bytes) }
+    {
+        self.bank.size() >= SMALLEST_BANK
+    }
+
+    pub(crate) fn is_sealed(&self) -> bool
+        ensures { result ≡ self.now.sealed }
+    {
+        self.directory.is_sealed()
+    }
+
+    pub(crate) fn entry(&self, table: u32, index: u32) -> Option<Entry>
+        ensures value { result ≡ entry_at self.now table index }
+        ensures bound { OnSome result ((table < 9) × (index < 64)) }
+    {
+        self.directory.entry(table, index)
+    }
+
+    // What an entry shows.
+    pub(crate) fn shown(&self, table: u32, index: u32) -> Shown
+        ensures value { result ≡ shown_at self.now table index }
+        ensures runs { (result.byte + result.bytes < 65536) × (result.slot + result.slots < 65536) }
+        ensures named { (result.owner < 256) × (result.object < 256) }
+    {
+        self.directory.shown(table, index)
+    }
+
+    pub(crate) fn level(&self, task: u32) -> u32
+        ensures { result ≡ level_of self.now task }
+    {
+        self.directory.level(task)
+    }
+
+    // The current context of a task.
+    pub(crate) fn current(&self, task: u32) -> Option<u32>
+        ensures value { result ≡ current_of (stack_at self.now task) }
+        ensures bound { OnSome result (task < 9) }
+    {
+        self.directory.current(task)
+    }
+
+    // The context from which the current one of a task was called.
+    pub(crate) fn calling(&self, task: u32) -> Option<u32>
+        ensures { result ≡ calling_of (stack_at self.now task) }
+    {
+        self.directory.calling(task)
+    }
+
+    // The word at an address.
+    #[tactic(auto, unfolding(rules::specs::State::word_at, bank::specs::Runs::read_run))]
+    pub(crate) fn word_at(&self, address: u32) -> u32
+        ensures { result ≡ word_at self.now.bytes address }
+    {
+        let mut four = [0u8; 4];
+        self.bank.read_run(address, &mut four);
+        u32::from_le_bytes(four)
+    }
+
+    // Fills the buffer with the bytes from an address on.
+    pub(crate) fn read_run(&self, address: u32, buffer: &mut [u8])
+        ensures { buffer.new ≡ read_run self.now.bytes address (length buffer.old) }
+    {
+        self.bank.read_run(address, buffer);
+    }
+
+    // Replaces the bytes from an address on.
+    #[tactic(auto, unfolding(rules::specs::Effects::overwrite))]
+    pub(crate) fn overwrite(&mut self, address: u32, source: &[u8])
+        ensures { self.new ≡ overwrite address source.now self.old }
+    {
+        self.bank.write_run(address, source);
+    }
+
+    // Puts a word into a slot.
+    #[tactic(auto, unfolding(rules::specs::Effects::put, rules::specs::State::word_bytes))]
+    pub(crate) fn put(&mut self, place: Place, word: u32)
+        ensures { self.new ≡ put place word self.old }
+    {
+        self.overwrite(place.by.slot_at(place.at), &word.to_le_bytes());
+    }
 }

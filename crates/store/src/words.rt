@@ -1,96 +1,69 @@
-// Words in slots, and the descriptors that they hold.
-ghost use Rattle.std.specs.Prelude.{◌≡◌, ◌<◌, IfSome};
-ghost use Rattle.rules.specs.Code.{place_of};
-ghost use Rattle.rules.specs.Effects.{put as put_at};
-ghost use Rattle.rules.specs.Operators.{word_of};
-ghost use Rattle.rules.specs.State.{decode, encode, held as held_at, named as named_by, valid, word_at, word_bytes};
-ghost use Rattle.store.specs.Fields.{Encodable};
-ghost use Rattle.tables.specs.Live.{state_of};
+// What words name.
+ghost use Rattle.std.specs.Prelude.{◌≡◌};
+ghost use Rattle.rules.specs.Operators.{level_named, word_of};
+ghost use Rattle.rules.specs.State.{entry as entry_at, held as held_at, named as named_by, shown as shown_at};
+ghost use Rattle.rules.specs.Tests.{level_by};
 
+use crate::ranges;
 use crate::store::Store;
 use bank::Bank;
+use rules::entry::Entry;
 use rules::shown::{Descriptor, Place, Shown};
-
-// The word of a descriptor.
-pub(crate) fn word_of(d: Descriptor) -> u32
-    requires { (d.table < 4096) × ((d.index < 4096) × (d.rights < 64)) }
-    ensures { result ≡ encode d }
-{
-    d.index as u32 + d.table as u32 * 4096 + 16777216 + d.rights as u32 * 33554432
-}
+use rules::words::is_valid;
 
 // The word of a descriptor that may be null.
-pub(crate) fn word_or_null(o: Option<Descriptor>) -> u32
-    requires { IfSome o Encodable }
-    ensures { result ≡ word_of o }
+pub(crate) fn word_or_null(named: Option<Descriptor>) -> u32
+    ensures { result ≡ word_of named }
 {
-    match o {
-        Some(d) => word_of(d),
-        None => 0,
-    }
-}
-
-// Whether a word has the valid bit and not the highest one.
-fn is_valid(word: u32) -> bool
-    ensures { result ≡ valid word }
-{
-    word / 16777216 % 2 == 1 && word / 2147483648 % 2 == 0
-}
-
-// The descriptor whose parts stand in a word.
-fn decoded(word: u32) -> Descriptor
-    ensures value { result ≡ decode word }
-    ensures bound { Encodable result }
-{
-    Descriptor {
-        table: (word / 4096 % 4096) as u16,
-        index: (word % 4096) as u16,
-        rights: (word / 33554432 % 64) as u8,
-    }
+    named.map_or(0, |d| u32::from(d))
 }
 
 impl<B: Bank> Store<B> {
-    // Puts a word into a slot that is shown.
-    pub(crate) fn put(&mut self, shown: Shown, slot: u16, word: u32)
-        ensures after { state_of self.new.directory (B.bytes self.new.bank) ≡ put_at (record { by = shown; at = slot }) word (state_of self.old.directory (B.bytes self.old.bank)) }
-        ensures kept { self.new.directory ≡ self.old.directory }
+    // The entry that a descriptor names.
+    pub(crate) fn entry_of(&self, d: &Descriptor) -> Option<Entry>
+        ensures { result ≡ entry_at self.now d.now.table d.now.index }
     {
-        self.bank
-            .write_run(shown.slot_at(slot), &word.to_le_bytes());
+        self.entry(d.table.get() as u32, d.index.get() as u32)
     }
 
-    // The word at an address.
-    pub(crate) fn word_at(&self, address: u32) -> u32
-        ensures { result ≡ word_at (B.bytes self.now.bank) address }
+    // What a descriptor shows.
+    pub(crate) fn shown_of(&self, d: &Descriptor) -> Shown
+        ensures { result ≡ shown_at self.now d.now.table d.now.index }
     {
-        let mut four = [0u8; 4];
-        self.bank.read_run(address, &mut four);
-        u32::from_le_bytes(four)
+        self.shown(d.table.get() as u32, d.index.get() as u32)
     }
 
     // What a word names.
+    #[tactic(auto, unfolding(rules::specs::State::named))]
     pub(crate) fn named(&self, word: u32) -> Option<Descriptor>
-        ensures value { result ≡ named_by (state_of self.now.directory (B.bytes self.now.bank)) word }
-        ensures bound { IfSome result Encodable }
+        ensures { result ≡ named_by self.now word }
     {
-        let descriptor = decoded(word);
-        if !is_valid(word) {
-            return None;
-        }
-        let Some(_) = self
-            .directory
-            .entry(descriptor.table as u32, descriptor.index as u32)
-        else {
-            return None;
-        };
-        Some(descriptor)
+        let descriptor = Descriptor::from(word);
+        (is_valid(word) && self.entry_of(&descriptor).is_some()).then_some(descriptor)
     }
 
     // What the word in a slot names.
+    #[tactic(auto, unfolding(rules::specs::State::held))]
     pub(crate) fn held(&self, place: Place) -> Option<Descriptor>
-        ensures value { result ≡ named_by (state_of self.now.directory (B.bytes self.now.bank)) (held_at (state_of self.now.directory (B.bytes self.now.bank)) (place_of place)) }
-        ensures bound { IfSome result Encodable }
+        ensures { result ≡ named_by self.now (held_at self.now place) }
     {
         self.named(self.word_at(place.by.slot_at(place.at)))
+    }
+
+    // The level of the entry that a descriptor names.
+    pub(crate) fn level_of(&self, d: &Descriptor) -> u8
+        ensures { result ≡ level_by (entry_at self.now d.now.table d.now.index) }
+    {
+        ranges::level_of(&self.entry_of(d))
+    }
+
+    // The level of what a descriptor names, 0 for null.
+    pub(crate) fn level_named(&self, named: &Option<Descriptor>) -> u8
+        ensures { result ≡ level_named self.now named.now }
+    {
+        match named {
+            Some(d) => self.level_of(d),
+            None => 0,
+        }
     }
 }

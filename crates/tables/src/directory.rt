@@ -2,13 +2,13 @@
 ghost use Rattle.std.specs.Prelude.{◌≡◌, ℕ, ◌+◌, ◌-◌, ◌*◌, ◌<◌, ◌≤◌, List, ◌∷◌, IfSome, if◌then◌else◌, Some, None, OnSome, length, nat_lt};
 ghost use Rattle.rules.specs.Effects.{grown, leave as leaving, next_index, sealing, with_stack, with_table};
 ghost use Rattle.rules.specs.Operators.{calling as calling_of};
-ghost use Rattle.rules.specs.State.{block_start, empty, entry as entry_at, level as level_of, part, shown as shown_at, stack as stack_at, table as table_at};
+ghost use Rattle.rules.specs.State.{block_start, empty, entry as entry_at, level as level_of, shown as shown_at, stack as stack_at, table as table_at};
 ghost use Rattle.rules.specs.Tests.{current as current_of};
 
 use crate::stack::Stack;
 use crate::table::{BLOCK, Table};
 use rules::below::Below;
-use rules::entry::{Entry, Refinement};
+use rules::entry::Entry;
 use rules::shown::Shown;
 use std::array;
 
@@ -52,18 +52,11 @@ impl Directory {
     {
         match self.entry(table, index) {
             Some(Entry::Object(o)) => Shown::whole(table, index, o),
-            Some(Entry::Refined(r)) => self.refined(r),
+            Some(Entry::Refined(r)) => match self.entry(r.table as u32, r.index as u32) {
+                Some(Entry::Object(o)) => Shown::part(r, o),
+                _ => Shown::nothing(),
+            },
             Some(Entry::Control(_)) | None => Shown::nothing(),
-        }
-    }
-
-    fn refined(&self, r: Refinement) -> Shown
-        ensures value { (l : List ℕ) → result ≡ part r (entry_at (state_of self.now l) r.table r.index) }
-        ensures named { (result.owner < 256) × (result.object < 256) }
-    {
-        match self.entry(r.table as u32, r.index as u32) {
-            Some(Entry::Object(o)) => Shown::part(r, o),
-            _ => Shown::nothing(),
         }
     }
 

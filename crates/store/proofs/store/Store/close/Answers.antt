@@ -1,0 +1,29 @@
+use Rattle.std.proofs.Common.{◌≡◌, ℕ, ◌<◌, List, [], length, true, Some, sym, ◌∙◌, subst, arith}
+use Rattle.rules.specs.State.{entry, shown, stack, table}
+use Rattle.rules.specs.Tests.{current}
+use Rattle.tables.specs.declared.directory.Directory.{Directory}
+use Rattle.tables.specs.Live.{can_leave, state_of}
+use Rattle.store.specs.Orderly.{IsOrderly}
+use Rattle.store.proofs.Orders.{may_leave, nine_stacks, nine_tables, orderly_left}
+use Rattle.store.proofs.store.Store.close.Goals as goal
+
+pub returns : goal.returns
+unfolding can_leave shown entry table stack
+returns g c =
+    let d : Directory = c.self.inside.directory in
+    let l : List ℕ = g.B.Bank.bytes c.self.inside.bank in
+    let q : ℕ = c.get.result in
+    let now : current (stack (state_of d []) q) ≡ Some c.args.context = rw (← c.self.view_is, ← c.get.ensures.value) at c.requires in
+    let can : can_leave (state_of d l) q c.args.context ≡ true = may_leave (state_of d []) q c.args.context c.self.invariant (omega (arith, nine_tables d [])) (omega (arith, nine_stacks d [])) now in
+    rw (← c.self.view_is, ← c.get.ensures.value) (c.leave.ensures l ∙ rw can)
+
+pub invariant_of-self : goal.invariant_of-self
+unfolding stack
+invariant_of-self g c =
+    let d : Directory = c.self.inside.directory in
+    let q : ℕ = c.get.result in
+    let now : current (stack (state_of d []) q) ≡ Some c.args.context = rw (← c.self.view_is, ← c.get.ensures.value) at c.requires in
+    let tables : q < length (state_of d []).tables = omega (arith, nine_tables d []) in
+    let stacks : q < length (state_of d []).stacks = omega (arith, nine_stacks d []) in
+    let can : can_leave (state_of d []) q c.args.context ≡ true = may_leave (state_of d []) q c.args.context c.self.invariant tables stacks now in
+    subst IsOrderly (sym (c.leave.ensures [] ∙ rw can)) (orderly_left (state_of d []) q c.args.context c.self.invariant tables stacks now)
