@@ -1,6 +1,6 @@
 use Rattle.std.proofs.Common.{◌≡◌, ℕ, ◌<◌, List, length, get_or, sym, rules}
 use Rattle.magnetometer.proofs.Halves.{joined, six}
-use Rattle.magnetometer.proofs.Record.from_bytes.Goals as goal
+use Rattle.magnetometer.proofs.RecordFromArrayU86.from.Goals as goal
 
 pub returns : goal.returns
 returns c =
