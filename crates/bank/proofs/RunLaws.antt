@@ -1,6 +1,6 @@
 -- The laws of reading and writing a run of bytes.
 -- Assumes nothing.
-use Rattle.std.proofs.Common.{◌≡◌, ℕ, zero, suc, ◌+◌, ◌-◌, ◌<◌, ◌≤◌, min, ◌≢◌, List, [], ◌∷◌, ◌++◌, length, get_or, take, drop, set, replicate, sym, refl, ap, ◌∙◌, inl, inr, le_of_suc-le-suc, not-suc-le-zero, add-zero, add-suc, suc-add, zero-add, add-one, arith}
+use Rattle.std.proofs.Common.{append-nil, ◌≡◌, ℕ, zero, suc, ◌+◌, ◌-◌, ◌<◌, ◌≤◌, min, ◌≢◌, List, [], ◌∷◌, ◌++◌, length, get_or, take, drop, set, replicate, sym, refl, ap, ◌∙◌, inl, inr, le_of_suc-le-suc, not-suc-le-zero, add-zero, add-suc, suc-add, zero-add, add-one, arith}
 use borrow.Rule.Slice.PartMut.{put_mid}
 use Rattle.std.proofs.lemmas.List.{length-set, get_or-set_same, get_or-set_other, set_past, get_or_past, same_lists, get_or_default, take_more, take-append-drop, drop_all, length-take-le, length-append, length-replicate, append_assoc, drop-drop, drop-set-lt, take_more_set, get_or_append_left, get_or-append_right, get_or-replicate, replicate_more, take-replicate}
 use Rattle.std.proofs.lemmas.Bool.{cases_lt}
@@ -140,13 +140,10 @@ filled_run l a n k known zeros e long inside z =
         ]
 
 -- a run over the whole list
-pub write_run_whole : (l bs : List ℕ) → length l ≡ length bs → write_run l 0 bs ≡ bs
+pub write_run_whole : {X : Type 0} (l bs : List X) → length l ≡ length bs → write_run l 0 bs ≡ bs
 write_run_whole l bs e =
-    same_lists (write_run l 0 bs) bs (length-write_run l 0 bs ∙ e)
-    λ k d h.
-    let inside : k < length l = omega (arith, length-write_run l 0 bs) in
-    get_or_default (write_run l 0 bs) k d 0 h ∙ ap (λ (m : ℕ). get_or (write_run l 0 bs) m 0) (sym (zero-add k))
-    ∙ get_or-write_run_inside l 0 bs k (omega arith) (rw zero-add inside) ∙ get_or_default bs k 0 d (omega arith)
+    let none : drop (length bs) l ≡ [] = drop_all (length bs) l (omega arith) in
+    sym (put_drop l 0 bs (omega arith)) ∙ rw (zero-add, none, append-nil)
 
 pub read_run_whole : (l : List ℕ) → read_run l 0 (length l) ≡ l
 read_run_whole l = sym (is_read_run l 0 l (λ k h. rw zero-add))

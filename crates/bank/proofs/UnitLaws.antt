@@ -1,8 +1,8 @@
 -- The laws of the units that a bank uses.
 -- Assumes nothing.
-use Rattle.std.proofs.Common.{◌≡◌, ℕ, suc, ◌-◌, ◌<◌, ◌≤◌, min, List, [], ◌∷◌, length, get_or, set, take, sym, refl, ap, ◌∙◌, inl, inr, arith}
+use Rattle.std.proofs.Common.{◌≡◌, ℕ, suc, ◌-◌, ◌<◌, ◌≤◌, min, List, [], ◌∷◌, length, set, take, sym, refl, ap, ◌∙◌, inl, inr, arith}
 use lib.Seq.{take-set-lt}
-use Rattle.std.proofs.lemmas.List.{length-take, get_or-take, drop-set-lt, take_all, set_past}
+use Rattle.std.proofs.lemmas.List.{length-take, drop-set-lt, take_all}
 use Rattle.std.proofs.lemmas.Bool.{cases_lt}
 use Rattle.bank.specs.Runs.{write_run}
 use Rattle.bank.specs.Units.{used, unused}
@@ -11,10 +11,6 @@ pub length-used : {X : Type 0} (l : List X) → length (used l) ≡ min (length 
 unfolding used
 length-used l = length-take 65536 l ∙ omega arith
 
-pub get_or-used : (l : List ℕ) (i : ℕ) → i < 65536 → get_or (used l) i 0 ≡ get_or l i 0
-unfolding used
-get_or-used l i h = get_or-take 65536 l i 0 h
-
 pub set-used : {X : Type 0} (l : List X) (i : ℕ) (x : X) → i < 65536 → used (set l i x) ≡ set (used l) i x
 unfolding used
 set-used l i x h = take-set-lt 65536 l i x h
@@ -22,10 +18,6 @@ set-used l i x h = take-set-lt 65536 l i x h
 pub set-unused : {X : Type 0} (l : List X) (i : ℕ) (x : X) → i < 65536 → unused (set l i x) ≡ unused l
 unfolding unused
 set-unused l i x h = drop-set-lt 65536 l i x h
-
--- one unit replaced, which the bank uses, or none
-pub set_past_used : {X : Type 0} (l : List X) (i : ℕ) (x : X) → length (used l) ≤ i → used l ≡ set (used l) i x
-set_past_used l i x h = sym (set_past (used l) i x h)
 
 pub write_run-used : {X : Type 0} (l : List X) (a : ℕ) (xs : List X) → length xs ≤ 65536 - a → used (write_run l a xs) ≡ write_run (used l) a xs
 unfolding write_run
@@ -43,6 +35,7 @@ pub used_all : {X : Type 0} (l : List X) → length l ≤ 65536 → used l ≡ l
 unfolding used
 used_all l h = take_all 65536 l h
 
+-- as many units as the bank uses, from the front
 pub used_least : {X : Type 0} (l : List X) (n : ℕ) → n ≡ min (length l) 65536 → take n l ≡ used l
 unfolding used
 used_least l n e =
