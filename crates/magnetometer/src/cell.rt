@@ -1,4 +1,5 @@
-// Units of memory of which radiation may turn a bit.
+// Units of memory of which radiation may turn a bit. Each type turns its own: one body for both would have to ask `<<` and `^=`
+// of any unit, with their ghost members, which is no plainer.
 ghost use Rattle.std.specs.Prelude.{◌≡◌, ◌^◌, ℕ, bit_xor, if◌then◌else◌, nat_lt};
 ghost use Rattle.magnetometer.specs.Upsets.{with_turned};
 
