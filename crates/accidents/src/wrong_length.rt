@@ -29,7 +29,7 @@ pub fn replay(rt: &HostRuntime) -> io::Result<()> {
         y: -3040,
         z: 25405,
     };
-    let written = store.write(ATTITUDE, 0, 0, &record.to_bytes());
+    let written = store.write(ATTITUDE, 0, 0, &<[u8; 6]>::from(record));
     log.step(rt, "attitude task writes the record", written)?;
     let zeros = [0u8; 70];
     let cleared = store.write(CAMERA, 0, 0, &zeros[0..64]);
@@ -57,7 +57,7 @@ fn show_record<B: Bank>(rt: &HostRuntime, store: &Store<B>) -> io::Result<()> {
     let mut bytes = [0u8; 6];
     match store.read(ATTITUDE, 0, 0, &mut bytes) {
         Ok(_) => {
-            let record = Record::from_bytes(bytes);
+            let record = Record::from(bytes);
             let x = record.x;
             let y = record.y;
             let z = record.z;

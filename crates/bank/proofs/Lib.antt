@@ -1,4 +1,4 @@
-pub mod CodedRuns
 pub mod Copies
+pub mod Meanings
 pub mod RunLaws
 pub mod UnitLaws

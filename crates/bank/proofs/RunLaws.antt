@@ -1,8 +1,8 @@
 -- The laws of reading and writing a run of bytes.
 -- Assumes nothing.
-use Rattle.std.proofs.Common.{◌≡◌, ℕ, zero, suc, ◌+◌, ◌-◌, ◌<◌, ◌≤◌, min, ◌≢◌, List, [], ◌∷◌, ◌++◌, length, get_or, take, drop, set, replicate, sym, refl, ap, ◌∙◌, inl, inr, le_of_suc-le-suc, not-suc-le-zero, add-zero, add-suc, suc-add, zero-add, add-one, arith}
+use Rattle.std.proofs.Common.{append-nil, ◌≡◌, ℕ, zero, suc, ◌+◌, ◌-◌, ◌<◌, ◌≤◌, min, ◌≢◌, List, [], ◌∷◌, ◌++◌, length, get_or, take, drop, set, replicate, sym, refl, ap, ◌∙◌, inl, inr, le_of_suc-le-suc, not-suc-le-zero, add-zero, add-suc, suc-add, zero-add, add-one, arith}
 use borrow.Rule.Slice.PartMut.{put_mid}
-use Rattle.std.proofs.lemmas.List.{length-set, get_or-set_same, get_or-set_other, set_past, get_or_past, same_lists, get_or_default, take_more, take-append-drop, drop_all, append-nil, length-take-le, length-drop, length-append, length-replicate, append_assoc, drop-drop, drop-set-lt, take_more_set, get_or_append_left, get_or-append_right, get_or-replicate, get_or-take, replicate_more, take-replicate}
+use Rattle.std.proofs.lemmas.List.{length-set, get_or-set_same, get_or-set_other, set_past, get_or_past, same_lists, get_or_default, take_more, take-append-drop, drop_all, length-take-le, length-append, length-replicate, append_assoc, drop-drop, drop-set-lt, take_more_set, get_or_append_left, get_or-append_right, get_or-replicate, replicate_more, take-replicate}
 use Rattle.std.proofs.lemmas.Bool.{cases_lt}
 use Rattle.bank.specs.Runs.{read_run, write_run}
 
@@ -23,7 +23,7 @@ is_read_run l a out each =
     same_lists out (read_run l a (length out)) (sym (length-read_run l a (length out)))
     λ k d h. get_or_default out k d 0 h ∙ each k h ∙ sym (get_or-read_run l a (length out) k h) ∙ get_or_default (read_run l a (length out)) k 0 d (rw length-read_run h)
 
-pub length-write_run : (l : List ℕ) (a : ℕ) (bs : List ℕ) → length (write_run l a bs) ≡ length l
+pub length-write_run : {X : Type 0} (l : List X) (a : ℕ) (bs : List X) → length (write_run l a bs) ≡ length l
 unfolding write_run
 length-write_run l a [] = refl
 length-write_run l a (b ∷ bs) = length-write_run (set l a b) (suc a) bs ∙ length-set l a b
@@ -56,21 +56,21 @@ get_or-write_run_inside l a (b ∷ bs) (suc k) h i =
     rw same (get_or-write_run_inside (set l a b) (suc a) bs k (le_of_suc-le-suc h) there)
 
 -- a run that begins at or beyond the end writes nothing
-pub write_run_past : (l : List ℕ) (a : ℕ) (bs : List ℕ) → length l ≤ a → write_run l a bs ≡ l
+pub write_run_past : {X : Type 0} (l : List X) (a : ℕ) (bs : List X) → length l ≤ a → write_run l a bs ≡ l
 unfolding write_run
 write_run_past l a [] h = refl
 write_run_past l a (b ∷ bs) h = rw (set_past l a b h) (write_run_past l (suc a) bs (omega arith))
 
-pub write_run-append : (l : List ℕ) (a : ℕ) (bs cs : List ℕ) → write_run l a (bs ++ cs) ≡ write_run (write_run l a bs) (a + length bs) cs
+pub write_run-append : {X : Type 0} (l : List X) (a : ℕ) (bs cs : List X) → write_run l a (bs ++ cs) ≡ write_run (write_run l a bs) (a + length bs) cs
 unfolding write_run
 write_run-append l a [] cs = rw add-zero
 write_run-append l a (b ∷ bs) cs = write_run-append (set l a b) (suc a) bs cs ∙ ap (λ (m : ℕ). write_run (write_run (set l a b) (suc a) bs) m cs) (omega arith)
 
-pub write_run_one : (l : List ℕ) (a b : ℕ) → write_run l a (b ∷ []) ≡ set l a b
+pub write_run_one : {X : Type 0} (l : List X) (a : ℕ) (b : X) → write_run l a (b ∷ []) ≡ set l a b
 unfolding write_run
 write_run_one l a b = refl
 
-pub write_run_none : (l : List ℕ) (a : ℕ) → write_run l a [] ≡ l
+pub write_run_none : {X : Type 0} (l : List X) (a : ℕ) → write_run l a [] ≡ l
 unfolding write_run
 write_run_none l a = refl
 
@@ -81,7 +81,7 @@ write_run_more l a bs i h =
     rw (take_more bs i 0 h) (write_run-append l a (take i bs) (get_or bs i 0 ∷ []) ∙ rw short (write_run_one (write_run l a (take i bs)) (a + i) (get_or bs i 0)))
 
 -- of a run only what lies inside is written
-pub write_run_inside : (l : List ℕ) (a : ℕ) (bs : List ℕ) (n : ℕ) → n ≤ length bs → (n < length bs → length l ≤ a + n) → write_run l a (take n bs) ≡ write_run l a bs
+pub write_run_inside : {X : Type 0} (l : List X) (a : ℕ) (bs : List X) (n : ℕ) → n ≤ length bs → (n < length bs → length l ≤ a + n) → write_run l a (take n bs) ≡ write_run l a bs
 write_run_inside l a bs n h past =
     let short : length (take n bs) ≡ n = length-take-le n bs h in
     let whole : write_run l a bs ≡ write_run (write_run l a (take n bs)) (a + n) (drop n bs) =
@@ -94,7 +94,7 @@ write_run_inside l a bs n h past =
     sym (whole ∙ rest)
 
 -- a run that begins at its address or at the end, f, and has the k bytes that lie inside, writes the same
-pub write_run_cut : (l : List ℕ) (a : ℕ) (bs : List ℕ) (f k : ℕ) → f ≡ min a (length l) → k ≡ min (length bs) (length l - f) → write_run l f (take k bs) ≡ write_run l a bs
+pub write_run_cut : {X : Type 0} (l : List X) (a : ℕ) (bs : List X) (f k : ℕ) → f ≡ min a (length l) → k ≡ min (length bs) (length l - f) → write_run l f (take k bs) ≡ write_run l a bs
 write_run_cut l a bs f k e g =
     elim (cases_lt a (length l)) [
       | inl less ↦
@@ -104,7 +104,7 @@ write_run_cut l a bs f k e g =
     ]
 
 -- a run that lies inside replaces the middle of the list
-put_drop : (l : List ℕ) (a : ℕ) (bs : List ℕ) → a + length bs ≤ length l → take a l ++ (bs ++ drop (a + length bs) l) ≡ write_run l a bs
+put_drop : {X : Type 0} (l : List X) (a : ℕ) (bs : List X) → a + length bs ≤ length l → take a l ++ (bs ++ drop (a + length bs) l) ≡ write_run l a bs
 unfolding write_run
 put_drop l a [] h = rw add-zero (take-append-drop a l)
 put_drop l a (b ∷ bs) h =
@@ -116,45 +116,34 @@ put_drop l a (b ∷ bs) h =
     let back = put_drop (set l a b) (suc a) bs there in
     sym (append_assoc (take a l) (b ∷ []) (bs ++ drop (a + suc (length bs)) l)) ∙ rw (front, past) at back
 
-pub write_run-put_mid : (l : List ℕ) (a : ℕ) (bs : List ℕ) (k : ℕ) → length bs ≡ k → a + k ≤ length l → put_mid a k l bs ≡ write_run l a bs
+pub write_run-put_mid : {X : Type 0} (l : List X) (a : ℕ) (bs : List X) (k : ℕ) → length bs ≡ k → a + k ≤ length l → put_mid a k l bs ≡ write_run l a bs
 write_run-put_mid l a bs k e h =
     let inside : a + length bs ≤ length l = omega arith in
     let past : drop k (drop a l) ≡ drop (a + length bs) l = rw e (drop-drop k a l) in
-    ap (λ (r : List ℕ). take a l ++ (bs ++ r)) past ∙ put_drop l a bs inside
+    ap (λ r. take a l ++ (bs ++ r)) past ∙ put_drop l a bs inside
 
--- a buffer that holds the k bytes that lie inside, and is filled up with zeros, is the run
-pub filled_run : (l : List ℕ) (a n k : ℕ) (out zeros : List ℕ) → k ≡ min n (length l - min a (length l)) → length out ≡ n → ((i : ℕ) → i < k → get_or out i 0 ≡ get_or l (a + i) 0) → zeros ≡ replicate (n - k) 0 → put_mid k (length out - k) out zeros ≡ read_run l a n
-filled_run l a n k out zeros e same inside z = cut ∙ is_read_run l a (take k out ++ replicate (n - k) 0) each ∙ ap (read_run l a) whole
+-- the k bytes that lie inside, and zeros behind them, are the run
+pub filled_run : (l : List ℕ) (a n k : ℕ) (known zeros : List ℕ) → k ≡ min n (length l - min a (length l)) → length known ≡ k → ((i : ℕ) → i < k → get_or known i 0 ≡ get_or l (a + i) 0) → zeros ≡ replicate (n - k) 0 → known ++ zeros ≡ read_run l a n
+filled_run l a n k known zeros e long inside z =
+    ap (λ (rest : List ℕ). known ++ rest) z ∙ is_read_run l a (known ++ replicate (n - k) 0) each ∙ ap (read_run l a) whole
   where
-    front : length (take k out) ≡ k
-    front = length-take-le k out (omega arith)
+    whole : length (known ++ replicate (n - k) 0) ≡ n
+    whole = simp (length-append, length-replicate) (omega arith)
 
-    none : drop (length out - k) (drop k out) ≡ []
-    none = drop_all (length out - k) (drop k out) (simp length-drop (omega arith))
-
-    cut : put_mid k (length out - k) out zeros ≡ take k out ++ replicate (n - k) 0
-    cut = rw (none, append-nil, z)
-
-    whole : length (take k out ++ replicate (n - k) 0) ≡ n
-    whole = simp (length-append, length-replicate) (omega (arith, front))
-
-    each : (i : ℕ) → i < length (take k out ++ replicate (n - k) 0) → get_or (take k out ++ replicate (n - k) 0) i 0 ≡ get_or l (a + i) 0
+    each : (i : ℕ) → i < length (known ++ replicate (n - k) 0) → get_or (known ++ replicate (n - k) 0) i 0 ≡ get_or l (a + i) 0
     each i h =
         elim (cases_lt i k) [
-          | inl less ↦ get_or_append_left (take k out) (replicate (n - k) 0) 0 i (omega (arith, front)) ∙ get_or-take k out i 0 less ∙ inside i less
+          | inl less ↦ get_or_append_left known (replicate (n - k) 0) 0 i (omega arith) ∙ inside i less
           | inr past ↦
-              get_or-append_right (take k out) (replicate (n - k) 0) k i 0 front past
+              get_or-append_right known (replicate (n - k) 0) k i 0 long past
               ∙ get_or-replicate (n - k) (i - k) 0 0 (omega (arith, whole)) ∙ sym (get_or_past l (a + i) 0 (omega (arith, whole)))
         ]
 
 -- a run over the whole list
-pub write_run_whole : (l bs : List ℕ) → length l ≡ length bs → write_run l 0 bs ≡ bs
+pub write_run_whole : {X : Type 0} (l bs : List X) → length l ≡ length bs → write_run l 0 bs ≡ bs
 write_run_whole l bs e =
-    same_lists (write_run l 0 bs) bs (length-write_run l 0 bs ∙ e)
-    λ k d h.
-    let inside : k < length l = omega (arith, length-write_run l 0 bs) in
-    get_or_default (write_run l 0 bs) k d 0 h ∙ ap (λ (m : ℕ). get_or (write_run l 0 bs) m 0) (sym (zero-add k))
-    ∙ get_or-write_run_inside l 0 bs k (omega arith) (rw zero-add inside) ∙ get_or_default bs k 0 d (omega arith)
+    let none : drop (length bs) l ≡ [] = drop_all (length bs) l (omega arith) in
+    sym (put_drop l 0 bs (omega arith)) ∙ rw (zero-add, none, append-nil)
 
 pub read_run_whole : (l : List ℕ) → read_run l 0 (length l) ≡ l
 read_run_whole l = sym (is_read_run l 0 l (λ k h. rw zero-add))

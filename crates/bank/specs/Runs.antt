@@ -7,6 +7,6 @@ read_run l a zero = []
 read_run l a (suc n) = slice_index l a ∷ read_run l (suc a) n
 
 -- the list with the given bytes from address a on; what would fall at or beyond its end is left out
-unfoldable pub write_run : List ℕ → ℕ → List ℕ → List ℕ
+unfoldable pub write_run : {X : Type 0} → List X → ℕ → List X → List X
 write_run l a [] = l
 write_run l a (b ∷ bs) = write_run (slice_set l a b) (suc a) bs

@@ -5,6 +5,7 @@ ghost use Rattle.std.specs.Prelude.{◌≡◌, ℕ, List, length, replicate, sli
 ghost use Rattle.bank.specs.Runs.{read_run, write_run};
 
 pub mod coded;
+pub mod lent;
 pub mod plain;
 mod units;
 
@@ -28,10 +29,11 @@ pub trait Bank {
         ensures { out.new ≡ read_run (bytes self.now) address (length out.old) }
     {
         let (_, inside) = units::clip(self.size() as usize, address, out.len());
-        for i in 0..inside {
-            out[i] = self.read(address + i as u32);
+        let (known, past) = out.split_at_mut(inside);
+        for (i, byte) in known.iter_mut().enumerate() {
+            *byte = self.read(address + i as u32);
         }
-        out[inside..].fill(0);
+        past.fill(0);
     }
 
     // Replaces the bytes from an address on, as far as they lie inside the bank.
@@ -39,8 +41,8 @@ pub trait Bank {
         ensures { bytes self.new ≡ write_run (bytes self.old) address source.now }
     {
         let (_, inside) = units::clip(self.size() as usize, address, source.len());
-        for i in 0..inside {
-            self.write(address + i as u32, source[i]);
+        for (i, byte) in source[..inside].iter().enumerate() {
+            self.write(address + i as u32, *byte);
         }
     }
 
@@ -48,9 +50,8 @@ pub trait Bank {
     fn clear_run(&mut self, address: u32, count: u32)
         ensures { bytes self.new ≡ write_run (bytes self.old) address (replicate count 0) }
     {
-        let (_, inside) = units::clip(self.size() as usize, address, count as usize);
-        for i in 0..inside {
-            self.write(address + i as u32, 0);
+        for at in address..self.size().min(address.saturating_add(count)) {
+            self.write(at, 0);
         }
     }
 }

@@ -1,5 +1,6 @@
 // The units of memory under a bank: which of them it uses, and where an address or a run lies among them.
-ghost use Rattle.std.specs.Prelude.{◌≡◌, ◌-◌, min, if◌then◌else◌, Some, None, nat_lt, slice_set};
+ghost use Rattle.std.specs.Prelude.{◌≡◌, ◌-◌, min};
+ghost use Rattle.bank.specs.Units.{used};
 
 const MOST: usize = 65536;
 
@@ -10,22 +11,11 @@ pub(crate) fn count(lent: usize) -> usize
     lent.min(MOST)
 }
 
-// The place of an address among the units lent, if the bank uses it.
-pub(crate) fn place(lent: usize, address: u32) -> Option<usize>
-    ensures { result ≡ (if nat_lt address (min lent 65536) then Some address else None) }
+// The units of those lent that a bank uses.
+pub(crate) fn used<T>(lent: &[T]) -> &[T]
+    ensures { result.now ≡ used lent.now }
 {
-    let at = address as usize;
-    if at < count(lent) { Some(at) } else { None }
-}
-
-// Replaces the unit at an address, if the bank uses it.
-pub(crate) fn put<T: Copy>(memory: &mut [T], address: u32, unit: T)
-    ensures { memory.new ≡ (if nat_lt address 65536 then slice_set memory.old address unit else memory.old) }
-{
-    let at = address as usize;
-    if at < count(memory.len()) {
-        memory[at] = unit;
-    }
+    &lent[..count(lent.len())]
 }
 
 // Where a run begins inside a bank, at its address or at the end, and how many of its bytes lie inside.

@@ -5,6 +5,7 @@
 mod tests {
     use bank::Bank;
     use bank::coded::CodedBank;
+    use bank::lent::{LentBank, Unit};
     use bank::plain::PlainBank;
     use std::process::Abort;
     use std::test::Fail;
@@ -43,22 +44,22 @@ mod tests {
         }
     }
 
-    #[test]
-    fn sizes_of_plain_banks(rt: HostRuntime) -> Result<(), Fail> {
+    fn sizes<U: Unit>(rt: &(impl Abort + AllocGlobal)) -> Result<(), Fail> {
         for (units, size) in SIZES {
-            let mut memory = vec![in rt.alloc(); 0u8; units]?;
-            edge(&rt, &mut PlainBank::new(memory.as_mut_slice()), size);
+            let mut memory = vec![in rt.alloc(); U::encode(0); units]?;
+            edge(rt, &mut LentBank::new(memory.as_mut_slice()), size);
         }
         Ok(())
     }
 
     #[test]
+    fn sizes_of_plain_banks(rt: HostRuntime) -> Result<(), Fail> {
+        sizes::<u8>(&rt)
+    }
+
+    #[test]
     fn sizes_of_coded_banks(rt: HostRuntime) -> Result<(), Fail> {
-        for (units, size) in SIZES {
-            let mut memory = vec![in rt.alloc(); 0u16; units]?;
-            edge(&rt, &mut CodedBank::new(memory.as_mut_slice()), size);
-        }
-        Ok(())
+        sizes::<u16>(&rt)
     }
 
     // A run that lies partly beyond the size, and one that lies wholly beyond it.

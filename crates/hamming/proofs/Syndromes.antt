@@ -1,34 +1,17 @@
--- The exclusive or of the positions that hold ones, one position after the other.
+-- The exclusive or of the positions that hold ones, as a fold over those positions.
 -- Assumes nothing.
-use Rattle.std.proofs.Common.{◌≡◌, ℕ, ◌+◌, ◌-◌, ◌*◌, ◌<◌, ◌≤◌, List, ◌∷◌, get_or, drop, sym, ap, ◌∙◌, one-mul, zero-mul, arith}
+use Rattle.std.proofs.Common.{◌≡◌, ℕ, zero, suc, ◌*◌, ◌<◌, cond, eqb, List, [], ◌∷◌, sym, ◌∙◌, filter, fold, one-mul, zero-mul, arith}
 use lib.Bits.{bit_xor, xor_assoc, xor_zero_l, xor_zero_r}
-use Rattle.std.proofs.lemmas.List.FromFn.{get_or-range_with_len}
-use Rattle.std.proofs.lemmas.List.{drop_more}
-use Rattle.hamming.specs.Code.{bit_at, xor_of_ones, positions, syndrome}
+use Rattle.hamming.specs.Code.{bit_at, xor_of_ones}
 
-abbrev pub Left : ℕ → ℕ → ℕ → Type 0
-Left w s k = bit_xor s (xor_of_ones w (drop (k - 1) positions)) ≡ syndrome w
+pub fold_ones : (w s : ℕ) (ks : List ℕ) → fold bit_xor s (filter (λ k. eqb (bit_at w k) 1) ks) ≡ bit_xor s (xor_of_ones w ks)
+fold_ones w s [] = sym (xor_zero_r s)
+fold_ones w s (k ∷ ks) = at (bit_at w k) (omega arith) (λ t. fold_ones w t ks)
+  where
+    rest : List ℕ
+    rest = filter (λ j. eqb (bit_at w j) 1) ks
 
-pub left_none : (w : ℕ) → Left w 0 1
-unfolding syndrome
-left_none w = xor_zero_l (xor_of_ones w positions)
-
-pub left_all : (w s : ℕ) → Left w s 13 → s ≡ syndrome w
-left_all w s h = sym (xor_zero_r s) ∙ h
-
-from_k : (k : ℕ) → 1 ≤ k → k ≤ 12 → drop (k - 1) positions ≡ k ∷ drop (k + 1 - 1) positions
-from_k k l u =
-    let h : k - 1 < 12 = omega arith in
-    let here : get_or positions (k - 1) 0 ≡ k = get_or-range_with_len 1 12 (k - 1) 0 h ∙ omega arith in
-    let next : k - 1 + 1 ≡ k + 1 - 1 = omega arith in
-    drop_more positions (k - 1) 0 h ∙ rw (here, next)
-
-module _ (w s k : ℕ) (l : 1 ≤ k) (u : k ≤ 12) (before : Left w s k) where
-  later : bit_xor (bit_xor s (bit_at w k * k)) (xor_of_ones w (drop (k + 1 - 1) positions)) ≡ syndrome w
-  later = xor_assoc s (bit_at w k * k) (xor_of_ones w (drop (k + 1 - 1) positions)) ∙ sym (ap (λ (ks : List ℕ). bit_xor s (xor_of_ones w ks)) (from_k k l u)) ∙ before
-
-  pub left_one : bit_at w k ≡ 1 → Left w (bit_xor s k) (k + 1)
-  left_one e = rw (e, one-mul k) at later
-
-  pub left_zero : bit_at w k ≡ 0 → Left w s (k + 1)
-  left_zero e = rw (e, zero-mul k, xor_zero_r s) at later
+    at : (b : ℕ) → b < 2 → ((t : ℕ) → fold bit_xor t rest ≡ bit_xor t (xor_of_ones w ks)) → fold bit_xor s (cond (eqb b 1) (k ∷ rest) rest) ≡ bit_xor s (bit_xor (b * k) (xor_of_ones w ks))
+    at zero h each = rw (zero-mul k, xor_zero_l) (each s)
+    at (suc zero) h each = rw (one-mul k) (each (bit_xor s k) ∙ xor_assoc s k (xor_of_ones w ks))
+    at (suc (suc b)) h each = absurd (omega arith)

@@ -26,6 +26,7 @@ pub fn encode(byte: u8) -> u16
 }
 
 // The byte that the data positions of a word hold as they stand.
+#[tactic(auto, unfolding(crate::specs::Code::data_bits))]
 fn data_bits(word: u16) -> u8
     ensures { result ≡ data_bits word }
 {
@@ -36,18 +37,15 @@ fn data_bits(word: u16) -> u8
 fn syndrome_of(word: u16) -> u16
     ensures { result ≡ syndrome word }
 {
-    let mut sum = 0;
-    for k in 1..13u16 {
-        if (word >> (k - 1)) % 2 == 1 {
-            sum ^= k;
-        }
-    }
-    sum
+    (1..13u16)
+        .filter(|k| (word >> (k - 1)) % 2 == 1)
+        .fold(0, |sum, k| sum ^ k)
 }
 
 // The word that has a one at a position and nowhere else.
 fn mask(position: u16) -> u16
-    requires { (1 ≤ position) × (position ≤ 12) }
+    requires low { 1 ≤ position }
+    requires high { position ≤ 12 }
     ensures { result ≡ 2 ^ (position - 1) }
 {
     1 << (position - 1)
@@ -57,11 +55,9 @@ fn mask(position: u16) -> u16
 fn correct(word: u16) -> u16
     ensures { result ≡ corrected word }
 {
-    let position = syndrome_of(word);
-    if position >= 1 && position <= 12 {
-        word ^ mask(position)
-    } else {
-        word
+    match syndrome_of(word) {
+        position @ 1..=12 => word ^ mask(position),
+        _ => word,
     }
 }
 

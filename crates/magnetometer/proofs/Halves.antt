@@ -1,6 +1,6 @@
 -- A signed number of 16 bits and its two bytes, and a record and its six.
 -- Assumes nothing.
-use Rattle.std.proofs.Common.{◌≡◌, ℕ, ◌+◌, ◌*◌, ◌/◌, ◌%◌, ◌^◌, ◌<◌, List, [], ◌∷◌, length, get_or, ℤ, sym, refl, ap, ◌∙◌, arith, w16, SFits, to_z, of_z}
+use Rattle.std.proofs.Common.{◌≡◌, ℕ, zero, suc, lit<, ◌+◌, ◌*◌, ◌/◌, ◌%◌, ◌^◌, ◌<◌, List, [], ◌∷◌, length, get_or, ℤ, sym, refl, ap, ◌∙◌, arith, w16, SFits, to_z, of_z}
 use Rattle.magnetometer.specs.declared.Record.{Record}
 use Rattle.magnetometer.specs.Bytes.{record_bytes}
 use mir.ValLaws.{of_z_fits}
@@ -39,3 +39,13 @@ same_record u v a b c d e f h =
     let y : u.y ≡ v.y = same_number u.y v.y b e (byte 2) (byte 3) in
     let z : u.z ≡ v.z = same_number u.z v.z c f (byte 4) (byte 5) in
     ap (λ (n : ℤ). as_record n u.y u.z) x ∙ ap (λ (n : ℤ). as_record v.x n u.z) y ∙ ap (as_record v.x v.y) z
+
+-- each of its six is a byte
+pub byte_below : (v : Record) (i : ℕ) → get_or (record_bytes v) i 0 < 256
+byte_below v zero = omega arith
+byte_below v (suc zero) = omega arith
+byte_below v (suc (suc zero)) = omega arith
+byte_below v (suc (suc (suc zero))) = omega arith
+byte_below v (suc (suc (suc (suc zero)))) = omega arith
+byte_below v (suc (suc (suc (suc (suc zero))))) = omega arith
+byte_below v (suc (suc (suc (suc (suc (suc i)))))) = lit< tt

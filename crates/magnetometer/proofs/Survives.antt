@@ -1,28 +1,21 @@
 -- Bytes that are stored over the whole of a memory, through one upset, and read back.
 -- Assumes nothing.
-use Rattle.std.proofs.Common.{◌≡◌, ℕ, suc, ◌+◌, ◌-◌, ◌^◌, ◌<◌, ◌≤◌, Bool, true, false, cond, ◌&&◌, ltb, List, [], ◌∷◌, map, length, get_or, set, sym, refl, ap, ◌∙◌, arith}
+use Rattle.std.proofs.Common.{◌≡◌, ℕ, suc, ◌+◌, ◌-◌, ◌^◌, ◌<◌, ◌≤◌, Bool, true, false, cond, ◌&&◌, ltb, List, [], ◌∷◌, map, length, get_or, set, sym, refl, ap, ◌∙◌, inl, inr, arith}
 use lib.Bits.{bit_xor}
-use Rattle.std.proofs.lemmas.List.{length-set, length-map, map-set, get_or-map, set-get_or}
-use Rattle.std.proofs.lemmas.Bool.{and_parts, ltb-true}
+use Rattle.std.proofs.lemmas.List.{length-map, map-set, get_or-map, set-get_or, set_past}
+use Rattle.std.proofs.lemmas.Bool.{and_parts, ltb-true, cases_lt, lt-ltb, le-ltb}
 use Rattle.bank.specs.Runs.{read_run, write_run}
 use Rattle.bank.specs.Units.{used}
 use Rattle.bank.proofs.RunLaws.{write_run_whole, read_run_whole}
 use Rattle.bank.proofs.UnitLaws.{used_all}
 use Rattle.hamming.specs.Code.{code_word, decoded}
 use Rattle.hamming.proofs.Corrects.{word_back, upset_back}
-use Rattle.magnetometer.specs.Upsets.{upset}
+use Rattle.magnetometer.specs.Upsets.{upset, with_turned}
 
 -- a store over the whole of a memory, and a load of it
-pub stored : (m bs m' : List ℕ) → length m ≡ length bs → length bs ≤ 65536 → length m' ≡ length m → used m' ≡ write_run (used m) 0 bs → m' ≡ bs
+pub stored : {X : Type 0} (m bs m' : List X) → length m ≡ length bs → length bs ≤ 65536 → length m' ≡ length m → used m' ≡ write_run (used m) 0 bs → m' ≡ bs
 stored m bs m' e h k w =
     sym (used_all m' (omega arith)) ∙ w ∙ rw (used_all m (omega arith)) (write_run_whole m bs e)
-
-pub length-upset : (n : ℕ) (m : List ℕ) (i k : ℕ) → length (upset n m i k) ≡ length m
-length-upset n m i k = at (ltb i (length m) && ltb k n)
-  where
-    at : (b : Bool) → length (cond b (set m i (bit_xor (get_or m i 0) (2 ^ k))) m) ≡ length m
-    at true = length-set m i (bit_xor (get_or m i 0) (2 ^ k))
-    at false = refl
 
 decoded_words : (bs : List ℕ) → ((i : ℕ) → get_or bs i 0 < 256) → map decoded (map code_word bs) ≡ bs
 decoded_words [] h = refl
@@ -49,3 +42,15 @@ survived bs i k h = at (ltb i (length (map code_word bs)) && ltb k 16) refl
 
 pub loaded : (l out : List ℕ) (n : ℕ) → length l ≡ n → out ≡ read_run l 0 n → out ≡ l
 loaded l out n e r = r ∙ ap (read_run l 0) (sym e) ∙ read_run_whole l
+
+-- a unit is turned where there are such a unit and such a bit, and nothing else is
+pub turned_is : (n : ℕ) (m : List ℕ) (i k : ℕ) → with_turned (λ u j. cond (ltb j n) (bit_xor u (2 ^ j)) u) m i k 0 ≡ upset n m i k
+turned_is n m i k =
+    elim (cases_lt i (length m)) [
+      | inl less ↦ rw (lt-ltb i (length m) less) (at (ltb k n))
+      | inr past ↦ set_past m i _ past ∙ rw (le-ltb i (length m) past)
+    ]
+  where
+    at : (b : Bool) → set m i (cond b (bit_xor (get_or m i 0) (2 ^ k)) (get_or m i 0)) ≡ cond b (set m i (bit_xor (get_or m i 0) (2 ^ k))) m
+    at true = refl
+    at false = set-get_or m i 0

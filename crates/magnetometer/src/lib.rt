@@ -1,20 +1,22 @@
 // A magnetometer record in a memory bank, and what one turned bit of that memory does to it.
 #![tactic(auto)]
 
-ghost use Rattle.std.specs.Prelude.{◌≡◌, ◌+◌, ◌*◌, ◌<◌, ◌≤◌, map, length, unsigned_abs};
-ghost use Rattle.magnetometer.specs.Bytes.{record_bytes};
-ghost use Rattle.magnetometer.specs.Upsets.{upset};
+ghost use Rattle.std.specs.Prelude.{◌≡◌, ◌+◌, ◌*◌, ◌<◌, ◌≤◌, ◌++◌, Some, codes, length, unsigned_abs};
 ghost use Rattle.bank.specs.Runs.{read_run, write_run};
 ghost use Rattle.bank.specs.Units.{used};
-ghost use Rattle.hamming.specs.Code.{code_word, decoded};
+ghost use Rattle.magnetometer.specs.Bytes.{record_bytes};
+ghost use Rattle.magnetometer.specs.Upsets.{upset, with_turned};
+ghost use Rattle.std.specs.Fmt.{signed_decimal};
 ghost use Rattle.std.specs.Int.{w16};
 ghost use Rattle.std.proofs.Common.{to_z};
 
+mod cell;
 pub mod tally;
 
 use bank::Bank;
-use bank::coded::CodedBank;
-use bank::plain::PlainBank;
+use bank::lent::{LentBank, Unit};
+use cell::Cell;
+use std::fmt::{self, Display, Write};
 
 // The three components of the field, in nanotesla.
 #[derive(Clone, Copy, PartialEq, Eq)]
@@ -24,20 +26,35 @@ pub struct Record {
     pub z: i16,
 }
 
-impl Record {
-    // x, y and z, each with its low byte first.
-    pub fn to_bytes(self) -> [u8; 6]
-        ensures { result ≡ record_bytes self }
-    {
-        let [a, b] = self.x.to_le_bytes();
-        let [c, d] = self.y.to_le_bytes();
-        let [e, f] = self.z.to_le_bytes();
+// x, y and z, each as wide as the format asks.
+impl fmt::Display for Record {
+    ghost output = { λ v. Some (signed_decimal v.x ++ codes " " ++ signed_decimal v.y ++ codes " " ++ signed_decimal v.z) };
+
+    fn fmt<W: fmt::Write>(&self, f: &mut fmt::Formatter<W>) -> fmt::Result {
+        self.x.fmt(f)?;
+        f.write_str(" ")?;
+        self.y.fmt(f)?;
+        f.write_str(" ")?;
+        self.z.fmt(f)
+    }
+}
+
+// x, y and z, each with its low byte first.
+impl From<Record> for [u8; 6] {
+    ghost from_gives = { λ v bytes. bytes ≡ record_bytes v };
+
+    fn from(record: Record) -> [u8; 6] {
+        let [a, b] = record.x.to_le_bytes();
+        let [c, d] = record.y.to_le_bytes();
+        let [e, f] = record.z.to_le_bytes();
         [a, b, c, d, e, f]
     }
+}
 
-    pub fn from_bytes(bytes: [u8; 6]) -> Record
-        ensures { record_bytes result ≡ bytes }
-    {
+impl From<[u8; 6]> for Record {
+    ghost from_gives = { λ bytes v. record_bytes v ≡ bytes };
+
+    fn from(bytes: [u8; 6]) -> Record {
         let [a, b, c, d, e, f] = bytes;
         Record {
             x: reading(a, b),
@@ -45,7 +62,9 @@ impl Record {
             z: reading(e, f),
         }
     }
+}
 
+impl Record {
     // The length of the field vector, rounded down.
     pub fn length(self) -> u32
         ensures low { result * result ≤ unsigned_abs self.x * unsigned_abs self.x + unsigned_abs self.y * unsigned_abs self.y + unsigned_abs self.z * unsigned_abs self.z }
@@ -58,53 +77,39 @@ impl Record {
     pub fn after_coded_upset(self, word: usize, bit: u32) -> Record
         ensures { result ≡ self }
     {
-        let mut words = [0; 6];
-        store_coded(&mut words, &self.to_bytes());
-        turn_word(&mut words, word, bit);
-        let mut bytes = [0; 6];
-        load_coded(&mut words, &mut bytes);
-        Record::from_bytes(bytes)
+        self.after_upset(&mut [0u16; 6], word, bit)
     }
 
     // The record as it is read from plain memory after one bit of one of its bytes has turned.
     pub fn after_plain_upset(self, byte: usize, bit: u32) -> Record
         ensures { record_bytes result ≡ upset 8 (record_bytes self) byte bit }
     {
-        let mut memory = [0; 6];
-        store_plain(&mut memory, &self.to_bytes());
-        turn_byte(&mut memory, byte, bit);
+        self.after_upset(&mut [0u8; 6], byte, bit)
+    }
+
+    // The record as it is read from a bank over six units of memory after one bit of one of them has turned.
+    fn after_upset<U: Cell>(self, memory: &mut [U], at: usize, bit: u32) -> Record
+        requires { length memory.old ≡ 6 }
+        ensures { (d : U) → record_bytes result ≡ U.bytes_of (with_turned U.turned (U.units_of (record_bytes self)) at bit d) }
+    {
+        store(memory, &<[u8; 6]>::from(self));
+        cell::turn(memory, at, bit);
         let mut bytes = [0; 6];
-        load_plain(&mut memory, &mut bytes);
-        Record::from_bytes(bytes)
+        load(memory, &mut bytes);
+        Record::from(bytes)
     }
 }
 
-fn store_coded(words: &mut [u16], bytes: &[u8])
-    ensures { used words.new ≡ write_run (used words.old) 0 (map code_word bytes.now) }
+fn store<U: Unit>(memory: &mut [U], bytes: &[u8])
+    ensures { used memory.new ≡ write_run (used memory.old) 0 (U.units_of bytes.now) }
 {
-    let mut bank = CodedBank::new(words);
-    bank.write_run(0, bytes);
+    LentBank::new(memory).write_run(0, bytes);
 }
 
-fn load_coded(words: &mut [u16], bytes: &mut [u8])
-    ensures { bytes.new ≡ read_run (map decoded (used words.old)) 0 (length bytes.old) }
+fn load<U: Unit>(memory: &mut [U], bytes: &mut [u8])
+    ensures { bytes.new ≡ read_run (U.bytes_of (used memory.old)) 0 (length bytes.old) }
 {
-    let bank = CodedBank::new(words);
-    bank.read_run(0, bytes);
-}
-
-fn store_plain(memory: &mut [u8], bytes: &[u8])
-    ensures { used memory.new ≡ write_run (used memory.old) 0 bytes.now }
-{
-    let mut bank = PlainBank::new(memory);
-    bank.write_run(0, bytes);
-}
-
-fn load_plain(memory: &mut [u8], bytes: &mut [u8])
-    ensures { bytes.new ≡ read_run (used memory.old) 0 (length bytes.old) }
-{
-    let bank = PlainBank::new(memory);
-    bank.read_run(0, bytes);
+    LentBank::new(memory).read_run(0, bytes);
 }
 
 fn reading(low: u8, high: u8) -> i16
@@ -119,21 +124,4 @@ fn square(n: i16) -> u32
 {
     let size = n.unsigned_abs() as u32;
     size * size
-}
-
-// Turns one bit of one unit of memory, if there are such a unit and such a bit.
-fn turn_word(memory: &mut [u16], at: usize, bit: u32)
-    ensures { memory.new ≡ upset 16 memory.old at bit }
-{
-    if at < memory.len() && bit < 16 {
-        memory[at] ^= 1 << bit;
-    }
-}
-
-fn turn_byte(memory: &mut [u8], at: usize, bit: u32)
-    ensures { memory.new ≡ upset 8 memory.old at bit }
-{
-    if at < memory.len() && bit < 8 {
-        memory[at] ^= 1 << bit;
-    }
 }

@@ -13,7 +13,10 @@ pub struct Tally {
 impl Tally {
     // No upset yet; the field has the given length.
     pub fn new(length: u32) -> Tally
-        ensures { (result.upsets ≡ 0) × (result.changes ≡ 0) × (result.least ≡ length) × (result.most ≡ length) }
+        ensures upsets { result.upsets ≡ 0 }
+        ensures changes { result.changes ≡ 0 }
+        ensures least { result.least ≡ length }
+        ensures most { result.most ≡ length }
     {
         Tally {
             upsets: 0,

@@ -14,30 +14,29 @@ fn main(rt: HostRuntime) -> io::Result<()> {
         z: 25405,
     };
     stored(&rt, record)?;
-    let mut coded = Tally::new(record.length());
-    let mut plain = Tally::new(record.length());
+    let [mut coded, mut plain] = [Tally::new(record.length()); 2];
     upsets(&rt, record, &mut coded, &mut plain)?;
-    summary(&rt, "coded", coded)?;
-    summary(&rt, "plain", plain)
+    for (kind, tally) in [("coded", coded), ("plain", plain)] {
+        summary(&rt, kind, tally)?;
+    }
+    Ok(())
 }
 
 // What is stored where.
 fn stored(rt: &HostRuntime, record: Record) -> io::Result<()> {
-    let x = record.x;
-    let y = record.y;
-    let z = record.z;
-    let length = record.length();
     println!(rt;
-        "Magnetometer record: x = {x} nT, y = {y} nT, z = {z} nT.\nLength of the field vector: {length} nT.\n"
+        "Magnetometer record: x = {} nT, y = {} nT, z = {} nT.\nLength of the field vector: {} nT.\n",
+        record.x,
+        record.y,
+        record.z,
+        record.length()
     )?;
     println!(rt;
         "It is stored in six bytes, the low byte of each reading first:\n\n  address   plain memory   coded memory"
     )?;
-    let bytes = record.to_bytes();
-    for i in 0..UNITS {
-        let byte = bytes[i];
-        let word = hamming::encode(byte);
-        println!(rt; "  {i:7}   byte 0x{byte:02x}      word 0x{word:03x}")?;
+    for (address, byte) in <[u8; UNITS]>::from(record).iter().enumerate() {
+        let word = hamming::encode(*byte);
+        println!(rt; "  {address:7}   byte 0x{byte:02x}      word 0x{word:03x}")?;
     }
     Ok(())
 }
@@ -55,12 +54,12 @@ fn upsets(
     println!(rt;
         "  turned         read from coded memory           read from plain memory\n  address  bit          x      y      z  length          x      y      z  length"
     )?;
-    for at in 0..UNITS {
-        for bit in 0..16 {
-            print!(rt; "  {at:7}  {bit:3}")?;
-            show(rt, record, record.after_coded_upset(at, bit), coded)?;
-            if bit < 8 {
-                show(rt, record, record.after_plain_upset(at, bit), plain)?;
+    for address in 0..UNITS {
+        for bit in 0..u16::BITS {
+            print!(rt; "  {address:7}  {bit:3}")?;
+            show(rt, record, record.after_coded_upset(address, bit), coded)?;
+            if bit < u8::BITS {
+                show(rt, record, record.after_plain_upset(address, bit), plain)?;
             } else {
                 print!(rt; "     no such bit")?;
             }
@@ -75,19 +74,13 @@ fn show(rt: &HostRuntime, stored: Record, read: Record, tally: &mut Tally) -> io
     let changed = read != stored;
     let length = read.length();
     tally.note(changed, length);
-    let x = read.x;
-    let y = read.y;
-    let z = read.z;
     let mark = if changed { "*" } else { "=" };
-    print!(rt; "   {mark} {x:6} {y:6} {z:6}  {length:6}")
+    print!(rt; "   {mark} {read:6}  {length:6}")
 }
 
 fn summary(rt: &HostRuntime, kind: &str, tally: Tally) -> io::Result<()> {
-    let upsets = tally.upsets;
-    let changes = tally.changes;
-    let least = tally.least;
-    let most = tally.most;
     println!(rt;
-        "\nIn {kind} memory {changes} of {upsets} upsets changed the record.\nThe length of the field vector was read as {least} to {most} nT."
+        "\nIn {kind} memory {} of {} upsets changed the record.\nThe length of the field vector was read as {} to {} nT.",
+        tally.changes, tally.upsets, tally.least, tally.most
     )
 }

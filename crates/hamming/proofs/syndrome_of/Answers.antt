@@ -1,16 +1,16 @@
-use Rattle.std.proofs.Common.{◌+◌, arith}
-use Rattle.hamming.proofs.Syndromes.{Left, left_none, left_all, left_one, left_zero}
+use Rattle.std.proofs.Common.{ℕ, eqb, ◌∙◌, refl, rules, tests}
+use lib.Bits.{bit_xor, xor_zero_l}
+use Rattle.std.proofs.lemmas.Iterator.{YieldsList-from_range}
+use Rattle.std.proofs.lemmas.Iterator.Consumers.{YieldsList-from_filter, fold_from_yields_List}
+use Rattle.hamming.specs.Code.{bit_at, positions, xor_of_ones, syndrome}
+use Rattle.hamming.proofs.Syndromes.{fold_ones}
 use Rattle.hamming.proofs.syndrome_of.Goals as goal
-use Rattle.hamming.proofs.syndrome_of.Goals.{then-word-k-eq1, else-word-k-eq1}
 
-pub loop-k-init : goal.loop-k-init
-loop-k-init c = (left_none c.args.word, λ e. absurd (omega arith))
-
-pub loop-k-preserved : goal.loop-k-preserved
-loop-k-preserved c =
-    let next : Left c.args.word c.if-word-k-eq1.sum (c.loop-k.k + 1) =
-    elim c.if-word-k-eq1.branch [
-      | then-word-k-eq1 w ↦ rw w.sum-is (left_one c.args.word c.loop-k.sum c.loop-k.k (omega arith) (omega arith) c.loop-k.invariant.0 (omega arith))
-      | else-word-k-eq1 w ↦ rw w.sum-is (left_zero c.args.word c.loop-k.sum c.loop-k.k (omega arith) (omega arith) c.loop-k.invariant.0 (omega arith))
-    ] in
-    (next, λ e. left_all c.args.word c.if-word-k-eq1.sum (rw e at next))
+pub returns : goal.returns
+unfolding syndrome
+returns c =
+    let w : ℕ = c.args.word in
+    fold_from_yields_List _ bit_xor 0 c.fold.result c.fold.ensures.ran
+    (YieldsList-from_filter _ (λ k. eqb (bit_at w k) 1) (YieldsList-from_range 1 13 12 (cc) refl) c.filter.ensures.closure (λ x r q k. search (rules, tests)))
+    (λ a x b q k. search rules)
+    ∙ fold_ones w 0 positions ∙ xor_zero_l (xor_of_ones w positions)

@@ -1,7 +1,9 @@
-use Rattle.std.proofs.Common.{◌≡◌, replicate}
+use Rattle.std.proofs.Common.{◌≡◌, ◌-◌, ◌≤◌, replicate}
 use Rattle.bank.specs.Runs.{write_run}
 use Rattle.bank.proofs.Bank.clear_run.Given as goal
 
--- the bytes passed are 0
-abbrev pub invariant-loop-i : goal.invariant-loop-i
-invariant-loop-i g l = g.Self.Bank.bytes l.self ≡ write_run (g.Self.Bank.bytes l.initial.self) l.address (replicate l.i 0)
+-- the addresses passed are 0, and they end in time
+abbrev pub invariant-loop-at : goal.invariant-loop-at
+invariant-loop-at g l =
+    (g.Self.Bank.bytes l.self ≡ write_run (g.Self.Bank.bytes l.initial.self) l.address (replicate (l.at - l.address) 0))
+    × (l.at - l.address ≤ l.at-end - l.address)

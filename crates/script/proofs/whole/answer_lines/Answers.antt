@@ -4,7 +4,7 @@ use Rattle.bank.specs.Units.{used}
 use Rattle.script.specs.Replies.{fresh}
 use Rattle.script.proofs.whole.answer_lines.Goals as goal
 
-all : used (replicate 18432 0) ≡ replicate 18432 0
+all : used {X = ℕ} (replicate 18432 0) ≡ replicate 18432 0
 unfolding used
 all = take_all 65536 (replicate 18432 0) (omega (arith, length-replicate {A = ℕ} 18432 0))
 

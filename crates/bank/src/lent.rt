@@ -1,0 +1,121 @@
+// A bank over lent memory: one byte in each of its first 65,536 units.
+ghost use Rattle.bank.specs.Runs.{write_run};
+ghost use Rattle.bank.specs.Units.{Rewrites, used};
+ghost use Rattle.std.specs.Prelude.{◌≡◌, ℕ, ◌<◌, List, length, map, replicate, slice_set};
+
+use crate::{Bank, units};
+
+// A unit of memory that holds one byte.
+pub trait Unit: Copy {
+    // The byte that a unit means, and the unit that a byte becomes.
+    ghost byte_of: { Self → ℕ };
+
+    ghost unit_of: { ℕ → Self };
+
+    // Of a list of units its bytes, and of a list of bytes its units.
+    ghost bytes_of: { List Self → List ℕ };
+
+    ghost units_of: { List ℕ → List Self };
+
+    fn decode(self) -> u8
+        ensures { result ≡ byte_of self };
+
+    fn encode(byte: u8) -> Self
+        ensures { result ≡ unit_of byte };
+
+    // Fills a buffer with the bytes of as many units.
+    fn decode_run(units: &[Self], out: &mut [u8])
+        requires { length units.now ≡ length out.old }
+        ensures { out.new ≡ bytes_of units.now }
+    {
+        for (i, unit) in units.iter().enumerate() {
+            out[i] = unit.decode();
+        }
+    }
+
+    // Fills units with as many bytes.
+    fn encode_run(units: &mut [Self], source: &[u8])
+        requires { length units.old ≡ length source.now }
+        ensures { units.new ≡ units_of source.now }
+    {
+        for (i, byte) in source.iter().enumerate() {
+            units[i] = Self::encode(*byte);
+        }
+    }
+
+    // A byte comes back from its unit, and lists go unit by unit.
+    ghost back: { (b : ℕ) → b < 256 → byte_of (unit_of b) ≡ b };
+
+    ghost bytes_each: { (us : List Self) → bytes_of us ≡ map byte_of us };
+
+    // A copy of a unit is the unit.
+    ghost infallible: { (u : Self) → Self.is_infallible u };
+
+    ghost clones: { (u v : Self) → Self.is_clone u v → v ≡ u };
+
+    ghost units_each: { (bs : List ℕ) → units_of bs ≡ map unit_of bs };
+}
+
+#[derive(Drop)]
+pub struct LentBank<'a, U: Unit> {
+    memory: &'a mut [U],
+}
+
+impl<'a, U: Unit> LentBank<'a, U> {
+    // A bank over the first 65,536 units of the memory, or all if they are fewer.
+    pub fn new(memory: &'a mut [U]) -> Self
+        ensures value { result.memory.now ≡ memory.old }
+        ensures lent { result.memory.ghost_name ≡ memory.entry.ghost_name }
+    {
+        LentBank { memory }
+    }
+}
+
+impl<U: Unit> Bank for LentBank<'_, U> {
+    ghost bytes = { λ s. U.bytes_of (used s.memory.now) };
+
+    fn size(&self) -> u32 {
+        units::count(self.memory.len()) as u32
+    }
+
+    fn read(&self, address: u32) -> u8 {
+        units::used(self.memory)
+            .get(address as usize)
+            .map_or(0, |unit| unit.decode())
+    }
+
+    fn write(&mut self, address: u32, byte: u8)
+        ensures means { U.bytes_of (used self.new.memory.now) ≡ slice_set (U.bytes_of (used self.old.memory.now)) address byte }
+        ensures memory { Rewrites self.old.memory self.new.memory (slice_set (used self.old.memory.now) address (U.unit_of byte)) }
+    {
+        // An index, since of a `get_mut` in a part of the memory the proof does not learn where it lies.
+        let at = address as usize;
+        if at < units::count(self.memory.len()) {
+            self.memory[at] = U::encode(byte);
+        }
+    }
+
+    fn read_run(&self, address: u32, out: &mut [u8]) {
+        let units = units::used(self.memory);
+        let (from, inside) = units::clip(units.len(), address, out.len());
+        let (known, past) = out.split_at_mut(inside);
+        U::decode_run(&units[from..from + inside], known);
+        past.fill(0);
+    }
+
+    fn write_run(&mut self, address: u32, source: &[u8])
+        ensures means { U.bytes_of (used self.new.memory.now) ≡ write_run (U.bytes_of (used self.old.memory.now)) address source.now }
+        ensures memory { Rewrites self.old.memory self.new.memory (write_run (used self.old.memory.now) address (U.units_of source.now)) }
+    {
+        let (from, inside) = units::clip(units::count(self.memory.len()), address, source.len());
+        U::encode_run(&mut self.memory[from..from + inside], &source[..inside]);
+    }
+
+    fn clear_run(&mut self, address: u32, count: u32)
+        ensures means { U.bytes_of (used self.new.memory.now) ≡ write_run (U.bytes_of (used self.old.memory.now)) address (replicate count 0) }
+        ensures memory { Rewrites self.old.memory self.new.memory (write_run (used self.old.memory.now) address (replicate count (U.unit_of 0))) }
+    {
+        let (from, inside) = units::clip(units::count(self.memory.len()), address, count as usize);
+        self.memory[from..from + inside].fill(U::encode(0));
+    }
+}
