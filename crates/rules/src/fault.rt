@@ -1,7 +1,7 @@
 // Faults: why a call was refused, where and for whom.
 
 // The reasons, in the order of their numbers from 1 on.
-#[derive(Clone, Copy)]
+#[derive(Clone, Copy, Debug, PartialEq, Eq)]
 pub enum Reason {
     SmallBank = 1,
     WrongPhase,
@@ -20,7 +20,7 @@ pub enum Reason {
 }
 
 // The layer that a reason belongs to.
-#[derive(Clone, Copy)]
+#[derive(Clone, Copy, Debug, PartialEq, Eq)]
 pub enum Layer {
     Call,
     Selector,
@@ -29,7 +29,7 @@ pub enum Layer {
 }
 
 // The place is the number of the operand, from 1 on, and the selector the one given, or both are 0.
-#[derive(Clone, Copy)]
+#[derive(Clone, Copy, Debug, PartialEq, Eq)]
 pub struct Fault {
     pub reason: Reason,
     pub task: u32,

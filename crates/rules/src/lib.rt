@@ -9,3 +9,4 @@ mod places;
 pub mod right;
 mod rights;
 pub mod shown;
+mod texts;
