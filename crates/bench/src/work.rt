@@ -1,17 +1,14 @@
 // The kinds of work.
+use std::str::FromStr;
 
-#[derive(Clone, Copy)]
+#[derive(Clone, Copy, Debug, PartialEq, Eq)]
 pub enum Work {
     Copy,
     CopyEnv,
     Null,
     Restrict,
-    Read1,
-    Read64,
-    Read1024,
-    Write1,
-    Write64,
-    Write1024,
+    Read(usize),
+    Write(usize),
     See,
     Look,
     CallReturn,
@@ -20,24 +17,32 @@ pub enum Work {
     Fault,
 }
 
-pub fn work_of(name: &str) -> Option<Work> {
-    match name {
-        "copy" => Some(Work::Copy),
-        "copy_env" => Some(Work::CopyEnv),
-        "null" => Some(Work::Null),
-        "restrict" => Some(Work::Restrict),
-        "read1" => Some(Work::Read1),
-        "read64" => Some(Work::Read64),
-        "read1024" => Some(Work::Read1024),
-        "write1" => Some(Work::Write1),
-        "write64" => Some(Work::Write64),
-        "write1024" => Some(Work::Write1024),
-        "see" => Some(Work::See),
-        "look" => Some(Work::Look),
-        "call_return" => Some(Work::CallReturn),
-        "call_create_return" => Some(Work::CallCreateReturn),
-        "call_refine_return" => Some(Work::CallRefineReturn),
-        "fault" => Some(Work::Fault),
-        _ => None,
+// A name of no kind of work.
+#[derive(Clone, Copy, Debug, PartialEq, Eq)]
+pub struct UnknownWork;
+
+impl FromStr for Work {
+    type Err = UnknownWork;
+
+    fn from_str(name: &str) -> Result<Work, UnknownWork> {
+        match name {
+            "copy" => Ok(Work::Copy),
+            "copy_env" => Ok(Work::CopyEnv),
+            "null" => Ok(Work::Null),
+            "restrict" => Ok(Work::Restrict),
+            "read1" => Ok(Work::Read(1)),
+            "read64" => Ok(Work::Read(64)),
+            "read1024" => Ok(Work::Read(1024)),
+            "write1" => Ok(Work::Write(1)),
+            "write64" => Ok(Work::Write(64)),
+            "write1024" => Ok(Work::Write(1024)),
+            "see" => Ok(Work::See),
+            "look" => Ok(Work::Look),
+            "call_return" => Ok(Work::CallReturn),
+            "call_create_return" => Ok(Work::CallCreateReturn),
+            "call_refine_return" => Ok(Work::CallRefineReturn),
+            "fault" => Ok(Work::Fault),
+            _ => Err(UnknownWork),
+        }
     }
 }
