@@ -82,7 +82,8 @@ fn load<B: Bank>(store: &mut Store<B>) -> Result<(), Fault> {
     store.seal()
 }
 
-// Makes rounds of one step, and sums what each answers and a byte of the buffer.
+// Makes rounds of one step, and sums what each answers and a byte of the buffer. The store is of any type, since the bound of a
+// closure cannot name a store over any bank.
 fn rounds<S, F: Fn(&mut S, &mut [u8; LARGEST]) -> Result<u64, Fault>>(
     store: &mut S,
     count: u32,
