@@ -33,7 +33,7 @@ pub fn steps(replay: &mut Replay) -> io::Result<()> {
     )?;
     replay.step(
         "it writes through the slot where the descriptor was",
-        |store| { store.write(TASK, slot(2), 0, &[0; 4]) },
+        |store| store.write(TASK, slot(2), 0, &[0; 4]),
     )?;
     replay.step(
         "it opens the object for keeping",
@@ -64,7 +64,7 @@ fn load(store: &mut Store<PlainBank>) -> Result<(), Fault> {
 fn keep(replay: &mut Replay) -> io::Result<()> {
     replay.step(
         "the payload routine is called, with the object for keeping",
-        |store| { store.call(TASK, slot(2), 4) },
+        |store| store.call(TASK, slot(2), 4),
     )?;
     replay.step(
         "it creates a scratch object",

@@ -6,13 +6,11 @@ use bank::plain::PlainBank;
 use rules::fault::Fault;
 use std::{env, io};
 
-mod bank_kind;
+mod names;
 mod rounds;
-mod work;
 
-use bank_kind::BankKind;
+use names::{BankKind, Work};
 use rounds::{Numbers, sum};
-use work::Work;
 
 const UNITS: usize = 18432;
 
@@ -24,9 +22,9 @@ fn main(rt: HostRuntime) -> io::Result<()> {
         return usage(&rt);
     };
     let (Ok(bank), Ok(work), Ok(count)) = (
-        bank.as_str().parse::<BankKind>(),
-        work.as_str().parse::<Work>(),
-        count.as_str().parse::<u32>(),
+        bank.parse::<BankKind>(),
+        work.parse::<Work>(),
+        count.parse::<u32>(),
     ) else {
         return usage(&rt);
     };

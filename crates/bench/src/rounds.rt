@@ -1,5 +1,5 @@
 // Rounds of one kind of work.
-use crate::work::Work;
+use crate::names::Work;
 use bank::Bank;
 use rules::fault::Fault;
 use store::store::Store;

@@ -1,5 +1,11 @@
-// The kinds of work.
+// What the arguments can name: a kind of bank, and a kind of work.
 use std::str::FromStr;
+
+#[derive(Clone, Copy, Debug, PartialEq, Eq)]
+pub enum BankKind {
+    Plain,
+    Coded,
+}
 
 #[derive(Clone, Copy, Debug, PartialEq, Eq)]
 pub enum Work {
@@ -7,6 +13,7 @@ pub enum Work {
     CopyEnv,
     Null,
     Restrict,
+    // Of how many bytes.
     Read(usize),
     Write(usize),
     See,
@@ -17,14 +24,26 @@ pub enum Work {
     Fault,
 }
 
-// A name of no kind of work.
+// A name of neither.
 #[derive(Clone, Copy, Debug, PartialEq, Eq)]
-pub struct UnknownWork;
+pub struct UnknownName;
+
+impl FromStr for BankKind {
+    type Err = UnknownName;
+
+    fn from_str(name: &str) -> Result<BankKind, UnknownName> {
+        match name {
+            "plain" => Ok(BankKind::Plain),
+            "coded" => Ok(BankKind::Coded),
+            _ => Err(UnknownName),
+        }
+    }
+}
 
 impl FromStr for Work {
-    type Err = UnknownWork;
+    type Err = UnknownName;
 
-    fn from_str(name: &str) -> Result<Work, UnknownWork> {
+    fn from_str(name: &str) -> Result<Work, UnknownName> {
         match name {
             "copy" => Ok(Work::Copy),
             "copy_env" => Ok(Work::CopyEnv),
@@ -42,7 +61,7 @@ impl FromStr for Work {
             "call_create_return" => Ok(Work::CallCreateReturn),
             "call_refine_return" => Ok(Work::CallRefineReturn),
             "fault" => Ok(Work::Fault),
-            _ => Err(UnknownWork),
+            _ => Err(UnknownName),
         }
     }
 }
