@@ -1,6 +1,6 @@
 // A payload that keeps a descriptor after its object has ended, while the place goes to a filter state.
-use crate::log::Log;
-use bank::Bank;
+use crate::replay::Replay;
+use crate::selector::slot;
 use bank::plain::PlainBank;
 use rules::fault::Fault;
 use std::io;
@@ -8,61 +8,52 @@ use store::store::Store;
 
 const TASK: u32 = 1;
 
-// Selectors of the task: slots 0 to 4 of its current context, and slot 0 of what slot 1 names.
-const SLOT_0: u16 = 0;
-
-const SLOT_1: u16 = 4;
-
-const SLOT_2: u16 = 8;
-
-const SLOT_3: u16 = 12;
-
-const SLOT_4: u16 = 16;
-
+// The selector of slot 0 of what slot 1 names.
 const KEPT: u16 = 1;
 
-const STATE: [u8; 4] = [3, 1, 4, 1];
-
-pub fn replay(rt: &HostRuntime) -> io::Result<()> {
-    println!(rt;
-        "2. A payload routine tries to keep a descriptor of its scratch object, whose place then goes to a filter state."
-    )?;
-    let mut memory = vec![in rt.alloc(); 0u8; 18432]?;
-    let mut store = Store::new(PlainBank::new(memory.as_mut_slice()));
-    let mut log = Log::new(rt);
-    let loaded = load(&mut store);
-    log.step(
-        rt,
+pub fn steps(replay: &mut Replay) -> io::Result<()> {
+    replay.step(
         "load: an object with one slot, to keep things in, in slot 2",
-        loaded,
+        load,
     )?;
-    keep(rt, &mut store, &mut log)?;
-    let created = store.create(TASK, SLOT_4, 16, 0);
-    log.step(rt, "the filter creates an object for its gains", created)?;
-    let created = store.create(TASK, SLOT_3, 4, 0);
-    log.step(rt, "the filter creates an object for its state", created)?;
-    show_place(rt, &store, "the state is", SLOT_3)?;
-    let written = store.write(TASK, SLOT_3, 0, &STATE);
-    log.step(rt, "the filter writes its state", written)?;
-    let called = store.call(TASK, SLOT_2, 4);
-    log.step(rt, "the payload routine is called again", called)?;
-    let written = store.write(TASK, SLOT_2, 0, &[0, 0, 0, 0]);
-    log.step(
-        rt,
+    keep(replay)?;
+    replay.step("the filter creates an object for its gains", |store| {
+        store.create(TASK, slot(4), 16, 0)
+    })?;
+    replay.step("the filter creates an object for its state", |store| {
+        store.create(TASK, slot(3), 4, 0)
+    })?;
+    show_place(replay, "the state is", slot(3))?;
+    replay.step("the filter writes its state", |store| {
+        store.write(TASK, slot(3), 0, &[3, 1, 4, 1])
+    })?;
+    replay.step(
+        "the payload routine is called again",
+        |store| store.call(TASK, slot(2), 4),
+    )?;
+    replay.step(
         "it writes through the slot where the descriptor was",
-        written,
+        |store| store.write(TASK, slot(2), 0, &[0; 4]),
     )?;
-    let copied = store.copy(TASK, SLOT_0, SLOT_1);
-    log.step(rt, "it opens the object for keeping", copied)?;
-    let written = store.write(TASK, KEPT, 0, &[0, 0, 0, 0]);
-    log.step(rt, "it writes through what was kept there", written)?;
-    let returned = store.return_result(TASK, SLOT_3);
-    log.step(rt, "it returns", returned)?;
-    show_state(rt, &store)?;
-    log.print(rt)
+    replay.step(
+        "it opens the object for keeping",
+        |store| store.copy(TASK, slot(0), slot(1)),
+    )?;
+    replay.step("it writes through what was kept there", |store| {
+        store.write(TASK, KEPT, 0, &[0; 4])
+    })?;
+    replay.step("it returns", |store| store.return_result(TASK, slot(3)))?;
+    replay.show_bytes(
+        TASK,
+        slot(3),
+        0,
+        &mut [0; 4],
+        "the filter reads its state",
+        "the filter cannot read its state",
+    )
 }
 
-fn load<B: Bank>(store: &mut Store<B>) -> Result<(), Fault> {
+fn load(store: &mut Store<PlainBank>) -> Result<(), Fault> {
     store.task(TASK, 8)?;
     let keeper = store.place(0, 0, 1, 0)?;
     store.grant(TASK, 0, 2, 0, keeper, 3)?;
@@ -70,46 +61,39 @@ fn load<B: Bank>(store: &mut Store<B>) -> Result<(), Fault> {
 }
 
 // The routine runs once: it makes its scratch object, tries to keep a descriptor of it in two ways, and returns.
-fn keep<B: Bank>(rt: &HostRuntime, store: &mut Store<B>, log: &mut Log) -> io::Result<()> {
-    let called = store.call(TASK, SLOT_2, 4);
-    log.step(
-        rt,
+fn keep(replay: &mut Replay) -> io::Result<()> {
+    replay.step(
         "the payload routine is called, with the object for keeping",
-        called,
+        |store| store.call(TASK, slot(2), 4),
     )?;
-    let created = store.create(TASK, SLOT_2, 4, 0);
-    log.step(rt, "it creates a scratch object", created)?;
-    show_place(rt, store, "the scratch object is", SLOT_2)?;
-    let copied = store.copy(TASK, SLOT_0, SLOT_1);
-    log.step(rt, "it opens the object for keeping", copied)?;
-    let copied = store.copy(TASK, SLOT_2, KEPT);
-    log.step(rt, "it copies the descriptor into it", copied)?;
-    let returned = store.return_result(TASK, SLOT_2);
-    log.step(rt, "it returns the descriptor as its result", returned)?;
-    let returned = store.return_result(TASK, SLOT_3);
-    log.step(rt, "it returns nothing", returned)
+    replay.step(
+        "it creates a scratch object",
+        |store| store.create(TASK, slot(2), 4, 0),
+    )?;
+    show_place(replay, "the scratch object is", slot(2))?;
+    replay.step(
+        "it opens the object for keeping",
+        |store| store.copy(TASK, slot(0), slot(1)),
+    )?;
+    replay.step(
+        "it copies the descriptor into it",
+        |store| store.copy(TASK, slot(2), KEPT),
+    )?;
+    replay.step("it returns the descriptor as its result", |store| {
+        store.return_result(TASK, slot(2))
+    })?;
+    replay.step(
+        "it returns nothing",
+        |store| store.return_result(TASK, slot(3)),
+    )
 }
 
-fn show_place<B: Bank>(
-    rt: &HostRuntime,
-    store: &Store<B>,
-    what: &str,
-    selector: u16,
-) -> io::Result<()> {
-    match store.see(TASK, selector) {
-        Ok(Some((table, index, _))) => println!(rt; "  {what} entry {index} of table {table}"),
-        Ok(None) => println!(rt; "  {what} not there"),
-        Err(_) => println!(rt; "  {what} not to be seen"),
-    }
-}
-
-fn show_state<B: Bank>(rt: &HostRuntime, store: &Store<B>) -> io::Result<()> {
-    let mut state = [0u8; 4];
-    match store.read(TASK, SLOT_3, 0, &mut state) {
-        Ok(_) => {
-            let [a, b, c, d] = state;
-            println!(rt; "  the filter reads its state: {a} {b} {c} {d}")
+fn show_place(replay: &Replay, what: &str, selector: u16) -> io::Result<()> {
+    match replay.store.see(TASK, selector) {
+        Ok(Some((table, index, _))) => {
+            println!(replay.rt; "  {what} entry {index} of table {table}")
         }
-        Err(_) => println!(rt; "  the filter cannot read its state"),
+        Ok(None) => println!(replay.rt; "  {what} not there"),
+        Err(_) => println!(replay.rt; "  {what} not to be seen"),
     }
 }

@@ -4,13 +4,27 @@
 
 mod full_table;
 mod kept_descriptor;
-mod log;
+mod replay;
+mod selector;
 mod wrong_length;
 
+use replay::run;
 use std::io;
 
 fn main(rt: HostRuntime) -> io::Result<()> {
-    wrong_length::replay(&rt)?;
-    kept_descriptor::replay(&rt)?;
-    full_table::replay(&rt)
+    run(
+        &rt,
+        "1. A camera clears its frame with a wrong length. The magnetometer record lies right behind the frame.",
+        wrong_length::steps,
+    )?;
+    run(
+        &rt,
+        "2. A payload routine tries to keep a descriptor of its scratch object, whose place then goes to a filter state.",
+        kept_descriptor::steps,
+    )?;
+    run(
+        &rt,
+        "3. A science task fills its table. In the middle of a slew the attitude task creates an object.",
+        full_table::steps,
+    )
 }

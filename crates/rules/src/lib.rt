@@ -11,4 +11,5 @@ mod places;
 pub mod right;
 pub mod rights;
 pub mod shown;
+mod texts;
 pub mod words;

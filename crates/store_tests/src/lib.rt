@@ -9,25 +9,19 @@ mod tests {
     use std::test::Fail;
     use store::store::Store;
 
-    // The number of the fault, or 0.
-    fn number_of<T: Drop>(r: Result<T, Fault>) -> u8 {
-        match r {
-            Ok(_) => 0,
-            Err(fault) => fault.reason.number(),
-        }
+    // The number of the fault.
+    fn number_of<T: Drop>(answer: Result<T, Fault>) -> Option<u8> {
+        answer.err().map(|fault| fault.reason.number())
     }
 
-    // The parts of the fault but its layer, or zeros.
-    fn parts_of<T: Drop>(r: Result<T, Fault>) -> [u32; 4] {
-        match r {
-            Ok(_) => [0, 0, 0, 0],
-            Err(fault) => [
-                fault.reason.number() as u32,
-                fault.task,
-                fault.place as u32,
-                fault.selector as u32,
-            ],
-        }
+    // The parts of the fault but its layer.
+    fn parts_of<T: Drop>(answer: Result<T, Fault>) -> Option<(u8, u32, u8, u16)> {
+        answer.err().map(|fault| (
+            fault.reason.number(),
+            fault.task,
+            fault.place,
+            fault.selector,
+        ))
     }
 
     #[test]
@@ -35,18 +29,14 @@ mod tests {
         let mut memory = vec![in rt.alloc(); 0xaau8; 18432]?;
         {
             let mut store = Store::new(PlainBank::new(memory.as_mut_slice()));
-            assert_eq!(rt; number_of(store.task(1, 4)), 0);
-            assert_eq!(rt; number_of(store.place(1, 2, 0, 0)), 0);
-            assert_eq!(rt; number_of(store.grant(1, 0, 0, 1, 1, 3)), 0);
+            assert!(rt; store.task(1, 4).is_ok());
+            assert!(rt; store.place(1, 2, 0, 0).is_ok());
+            assert!(rt; store.grant(1, 0, 0, 1, 1, 3).is_ok());
         }
-        assert!(rt; memory.len() == 18432);
+        assert_eq!(rt; memory.len(), 18432);
         assert_eq!(rt;
-            [memory[2060], memory[2061], memory[2062], memory[2063]],
-            [0x01, 0x10, 0x00, 0x07]
-        );
-        assert_eq!(rt;
-            [memory[2059], memory[2064], memory[2065], memory[2066]],
-            [0, 0, 0, 0xaa]
+            memory.get(2059..2067),
+            Some([0, 0x01, 0x10, 0x00, 0x07, 0, 0, 0xaa].as_slice())
         );
         Ok(())
     }
@@ -55,17 +45,17 @@ mod tests {
     fn load_calls_are_refused_by_number(rt: HostRuntime) -> Result<(), Fail> {
         let mut memory = vec![in rt.alloc(); 0u8; 18432]?;
         let mut store = Store::new(PlainBank::new(memory.as_mut_slice()));
-        assert_eq!(rt; number_of(store.place(9, 0, 0, 0)), 12);
-        assert_eq!(rt; number_of(store.task(9, 4)), 3);
-        assert_eq!(rt; number_of(store.task(2, 65)), 12);
-        assert_eq!(rt; number_of(store.task(2, 64)), 0);
-        assert_eq!(rt; number_of(store.task(2, 64)), 3);
-        assert_eq!(rt; number_of(store.place(2, 1793, 0, 0)), 14);
-        assert_eq!(rt; number_of(store.grant(2, 0, 0, 2, 0, 1)), 10);
-        assert_eq!(rt; number_of(store.fill(2, 0, 0, &[])), 0);
-        assert_eq!(rt; number_of(store.fill(2, 0, 0, &[1])), 12);
-        assert_eq!(rt; number_of(store.seal()), 0);
-        assert_eq!(rt; number_of(store.seal()), 2);
+        assert_eq!(rt; number_of(store.place(9, 0, 0, 0)), Some(12));
+        assert_eq!(rt; number_of(store.task(9, 4)), Some(3));
+        assert_eq!(rt; number_of(store.task(2, 65)), Some(12));
+        assert!(rt; store.task(2, 64).is_ok());
+        assert_eq!(rt; number_of(store.task(2, 64)), Some(3));
+        assert_eq!(rt; number_of(store.place(2, 1793, 0, 0)), Some(14));
+        assert_eq!(rt; number_of(store.grant(2, 0, 0, 2, 0, 1)), Some(10));
+        assert!(rt; store.fill(2, 0, 0, &[]).is_ok());
+        assert_eq!(rt; number_of(store.fill(2, 0, 0, &[1])), Some(12));
+        assert!(rt; store.seal().is_ok());
+        assert_eq!(rt; number_of(store.seal()), Some(2));
         Ok(())
     }
 
@@ -73,8 +63,8 @@ mod tests {
     fn a_small_bank_refuses_all(rt: HostRuntime) -> Result<(), Fail> {
         let mut memory = vec![in rt.alloc(); 0u8; 18431]?;
         let mut store = Store::new(PlainBank::new(memory.as_mut_slice()));
-        assert_eq!(rt; number_of(store.seal()), 1);
-        assert_eq!(rt; number_of(store.task(1, 4)), 1);
+        assert_eq!(rt; number_of(store.seal()), Some(1));
+        assert_eq!(rt; number_of(store.task(1, 4)), Some(1));
         Ok(())
     }
 
@@ -82,23 +72,26 @@ mod tests {
     fn operators_answer_and_fault_in_all_parts(rt: HostRuntime) -> Result<(), Fail> {
         let mut memory = vec![in rt.alloc(); 0xaau8; 18432]?;
         let mut store = Store::new(PlainBank::new(memory.as_mut_slice()));
-        assert_eq!(rt; number_of(store.task(1, 4)), 0);
-        assert_eq!(rt; number_of(store.place(1, 2, 0, 0)), 0);
-        assert_eq!(rt; number_of(store.grant(1, 0, 0, 1, 1, 3)), 0);
-        assert_eq!(rt; parts_of(store.null(1, 0)), [2, 1, 0, 0]);
-        assert_eq!(rt; number_of(store.seal()), 0);
-        assert_eq!(rt; number_of(store.write(1, 0, 1, &[7])), 0);
+        assert!(rt; store.task(1, 4).is_ok());
+        assert!(rt; store.place(1, 2, 0, 0).is_ok());
+        assert!(rt; store.grant(1, 0, 0, 1, 1, 3).is_ok());
+        assert_eq!(rt; parts_of(store.null(1, 0)), Some((2, 1, 0, 0)));
+        assert!(rt; store.seal().is_ok());
+        assert!(rt; store.write(1, 0, 1, &[7]).is_ok());
         let mut buffer = [9u8, 9];
-        assert_eq!(rt; number_of(store.read(1, 0, 0, &mut buffer)), 0);
+        assert!(rt; store.read(1, 0, 0, &mut buffer).is_ok());
         assert_eq!(rt; buffer, [0, 7]);
-        assert_eq!(rt; parts_of(store.read(1, 0, 1, &mut buffer)), [12, 1, 0, 0]);
+        assert_eq!(rt;
+            parts_of(store.read(1, 0, 1, &mut buffer)),
+            Some((12, 1, 0, 0))
+        );
         assert_eq!(rt; buffer, [0, 7]);
-        assert_eq!(rt; parts_of(store.null(1, 0)), [11, 1, 1, 0]);
-        assert_eq!(rt; parts_of(store.copy(1, 0, 5)), [5, 1, 2, 5]);
-        assert_eq!(rt; parts_of(store.look(1, 4)), [8, 1, 1, 4]);
-        assert_eq!(rt; parts_of(store.typed(1, 0, 4, 1, 1)), [9, 1, 1, 0]);
-        assert_eq!(rt; parts_of(store.call(2, 0, 4)), [3, 2, 0, 0]);
-        assert_eq!(rt; parts_of(store.return_result(1, 0)), [4, 1, 0, 0]);
+        assert_eq!(rt; parts_of(store.null(1, 0)), Some((11, 1, 1, 0)));
+        assert_eq!(rt; parts_of(store.copy(1, 0, 5)), Some((5, 1, 2, 5)));
+        assert_eq!(rt; parts_of(store.look(1, 4)), Some((8, 1, 1, 4)));
+        assert_eq!(rt; parts_of(store.typed(1, 0, 4, 1, 1)), Some((9, 1, 1, 0)));
+        assert_eq!(rt; parts_of(store.call(2, 0, 4)), Some((3, 2, 0, 0)));
+        assert_eq!(rt; parts_of(store.return_result(1, 0)), Some((4, 1, 0, 0)));
         Ok(())
     }
 
@@ -106,20 +99,20 @@ mod tests {
     fn a_created_object_ends_with_its_level(rt: HostRuntime) -> Result<(), Fail> {
         let mut memory = vec![in rt.alloc(); 0u16; 18432]?;
         let mut store = Store::new(CodedBank::new(memory.as_mut_slice()));
-        assert_eq!(rt; number_of(store.task(3, 8)), 0);
-        assert_eq!(rt; number_of(store.seal()), 0);
-        assert_eq!(rt; number_of(store.call(3, 0, 4)), 0);
-        assert_eq!(rt; number_of(store.create(3, 4, 10, 1)), 0);
-        assert_eq!(rt; number_of(store.restrict(3, 4, 8, 3)), 0);
-        assert_eq!(rt; number_of(store.refine(3, 8, 12, 2, 3, 0, 1)), 0);
-        assert!(rt; matches!(store.see(3, 8), Ok(Some((3, 2, 3)))));
-        assert!(rt; matches!(store.see(3, 12), Ok(Some((3, 3, 3)))));
-        assert!(rt; matches!(store.look(3, 12), Ok((0, 3, 1, 2))));
-        assert_eq!(rt; parts_of(store.return_result(3, 4)), [13, 3, 0, 0]);
-        assert_eq!(rt; number_of(store.return_result(3, 0)), 0);
-        assert!(rt; matches!(store.see(3, 8), Ok(None)));
-        assert_eq!(rt; number_of(store.create(3, 8, 2000, 0)), 0);
-        assert!(rt; matches!(store.see(3, 8), Ok(Some((3, 1, 63)))));
+        assert!(rt; store.task(3, 8).is_ok());
+        assert!(rt; store.seal().is_ok());
+        assert!(rt; store.call(3, 0, 4).is_ok());
+        assert!(rt; store.create(3, 4, 10, 1).is_ok());
+        assert!(rt; store.restrict(3, 4, 8, 3).is_ok());
+        assert!(rt; store.refine(3, 8, 12, 2, 3, 0, 1).is_ok());
+        assert_eq!(rt; store.see(3, 8), Ok(Some((3, 2, 3))));
+        assert_eq!(rt; store.see(3, 12), Ok(Some((3, 3, 3))));
+        assert_eq!(rt; store.look(3, 12), Ok((0, 3, 1, 2)));
+        assert_eq!(rt; parts_of(store.return_result(3, 4)), Some((13, 3, 0, 0)));
+        assert!(rt; store.return_result(3, 0).is_ok());
+        assert_eq!(rt; store.see(3, 8), Ok(None));
+        assert!(rt; store.create(3, 8, 2000, 0).is_ok());
+        assert_eq!(rt; store.see(3, 8), Ok(Some((3, 1, 63))));
         Ok(())
     }
 }

@@ -1,0 +1,87 @@
+// A replay: a store over a plain bank, whose calls are printed as steps, and the log of its faults.
+use bank::plain::PlainBank;
+use rules::fault::Fault;
+use std::io;
+use store::store::Store;
+
+// The bank is a plain one, since the bound of a closure cannot name a store over any bank.
+#[derive(Drop)]
+pub struct Replay<'a> {
+    pub rt: &'a HostRuntime,
+    pub store: Store<PlainBank<'a>>,
+    faults: Vec<Fault>,
+}
+
+// Prints a title, the steps on a new store, and the faults that they met.
+pub fn run<F: FnOnce(&mut Replay) -> io::Result<()>>(
+    rt: &HostRuntime,
+    title: &str,
+    steps: F,
+) -> io::Result<()>
+    requires { F.IsAlwaysCallable steps }
+{
+    println!(rt; "{title}")?;
+    let mut memory = vec![in rt.alloc(); 0u8; 18432]?;
+    let mut replay = Replay::new(rt, memory.as_mut_slice());
+    steps(&mut replay)?;
+    replay.print_faults()
+}
+
+impl<'a> Replay<'a> {
+    // A new store over a bank in this memory, and no fault yet.
+    fn new(rt: &'a HostRuntime, memory: &'a mut [u8]) -> Replay<'a> {
+        let store = Store::new(PlainBank::new(memory));
+        Replay {
+            rt,
+            store,
+            faults: Vec::new(rt.alloc()),
+        }
+    }
+
+    // Makes a call, prints it as a step with what it answered, and notes a fault.
+    pub fn step<F: FnOnce(&mut Store<PlainBank>) -> Result<(), Fault>>(
+        &mut self,
+        what: &str,
+        call: F,
+    ) -> io::Result<()>
+        requires { F.IsAlwaysCallable call }
+    {
+        match call(&mut self.store) {
+            Ok(()) => println!(self.rt; "  {what}: done"),
+            Err(fault) => {
+                self.faults.push(fault)?;
+                let number = fault.reason.number();
+                println!(self.rt; "  {what}: refused, fault {number}, {}", fault.reason)
+            }
+        }
+    }
+
+    // Reads bytes of an object and prints them, or that they cannot be read.
+    pub fn show_bytes(
+        &self,
+        task: u32,
+        source: u16,
+        offset: u32,
+        bytes: &mut [u8],
+        reads: &str,
+        cannot: &str,
+    ) -> io::Result<()> {
+        if self.store.read(task, source, offset, bytes).is_err() {
+            return println!(self.rt; "  {cannot}");
+        }
+        print!(self.rt; "  {reads}:")?;
+        for byte in bytes.iter() {
+            print!(self.rt; " {byte}")?;
+        }
+        println!(self.rt; "")
+    }
+
+    // Prints all faults in their parts.
+    fn print_faults(&self) -> io::Result<()> {
+        println!(self.rt; "  Fault log:")?;
+        for fault in self.faults.iter() {
+            println!(self.rt; "    {fault}")?;
+        }
+        println!(self.rt; "")
+    }
+}

@@ -1,0 +1,67 @@
+// What the arguments can name: a kind of bank, and a kind of work.
+use std::str::FromStr;
+
+#[derive(Clone, Copy, Debug, PartialEq, Eq)]
+pub enum BankKind {
+    Plain,
+    Coded,
+}
+
+#[derive(Clone, Copy, Debug, PartialEq, Eq)]
+pub enum Work {
+    Copy,
+    CopyEnv,
+    Null,
+    Restrict,
+    // Of how many bytes.
+    Read(usize),
+    Write(usize),
+    See,
+    Look,
+    CallReturn,
+    CallCreateReturn,
+    CallRefineReturn,
+    Fault,
+}
+
+// A name of neither.
+#[derive(Clone, Copy, Debug, PartialEq, Eq)]
+pub struct UnknownName;
+
+impl FromStr for BankKind {
+    type Err = UnknownName;
+
+    fn from_str(name: &str) -> Result<BankKind, UnknownName> {
+        match name {
+            "plain" => Ok(BankKind::Plain),
+            "coded" => Ok(BankKind::Coded),
+            _ => Err(UnknownName),
+        }
+    }
+}
+
+impl FromStr for Work {
+    type Err = UnknownName;
+
+    fn from_str(name: &str) -> Result<Work, UnknownName> {
+        match name {
+            "copy" => Ok(Work::Copy),
+            "copy_env" => Ok(Work::CopyEnv),
+            "null" => Ok(Work::Null),
+            "restrict" => Ok(Work::Restrict),
+            "read1" => Ok(Work::Read(1)),
+            "read64" => Ok(Work::Read(64)),
+            "read1024" => Ok(Work::Read(1024)),
+            "write1" => Ok(Work::Write(1)),
+            "write64" => Ok(Work::Write(64)),
+            "write1024" => Ok(Work::Write(1024)),
+            "see" => Ok(Work::See),
+            "look" => Ok(Work::Look),
+            "call_return" => Ok(Work::CallReturn),
+            "call_create_return" => Ok(Work::CallCreateReturn),
+            "call_refine_return" => Ok(Work::CallRefineReturn),
+            "fault" => Ok(Work::Fault),
+            _ => Err(UnknownName),
+        }
+    }
+}

@@ -1,0 +1,105 @@
+// Rounds of one kind of work.
+use crate::names::Work;
+use bank::Bank;
+use rules::fault::Fault;
+use store::store::Store;
+
+const LARGEST: usize = 1024;
+
+// What a round hands over. Its numbers are made of arguments of the program, so that the compiler does not know them.
+#[derive(Clone, Copy)]
+pub struct Numbers {
+    pub task: u32,
+    pub zero: u32,
+}
+
+// The checksum of rounds of a kind of work on a new store over a bank.
+pub fn sum<B: Bank + Drop>(
+    bank: B,
+    work: Work,
+    count: u32,
+    numbers: Numbers,
+) -> Result<u64, Fault> {
+    let mut store = Store::new(bank);
+    load(&mut store)?;
+    let on = &mut store;
+    let Numbers { task, zero } = numbers;
+    match work {
+        Work::Copy => rounds(on, count, |store, _| store.copy(task, 16, 32).map(|()| 0)),
+        Work::CopyEnv => rounds(on, count, |store, _| store.copy(task, 1, 9).map(|()| 0)),
+        Work::Null => rounds(on, count, |store, _| store.null(task, 36).map(|()| 0)),
+        Work::Restrict => rounds(on, count, |store, _| {
+            store.restrict(task, 16, 32, zero | 35).map(|()| 0)
+        }),
+        Work::Read(length) => rounds(on, count, |store, buffer| {
+            let run = &mut buffer[..length.min(LARGEST)];
+            store.read(task, 16, zero, run).map(|()| 0)
+        }),
+        Work::Write(length) => rounds(on, count, |store, buffer| {
+            let run = &buffer[..length.min(LARGEST)];
+            store.write(task, 16, zero, run).map(|()| 0)
+        }),
+        Work::See => rounds(on, count, |store, _| {
+            store.see(task, 16).map(|seen| seen.is_some() as u64)
+        }),
+        Work::Look => rounds(on, count, |store, _| {
+            store.look(task, 16).map(|looked| looked.1 as u64)
+        }),
+        Work::CallReturn => rounds(on, count, |store, _| {
+            store.call(task, 16, zero | 4)?;
+            store.return_result(task, 4).map(|()| 0)
+        }),
+        Work::CallCreateReturn => rounds(on, count, |store, _| {
+            store.call(task, 16, zero | 4)?;
+            store.create(task, 4, zero | 8, zero | 1)?;
+            store.return_result(task, 8).map(|()| 0)
+        }),
+        Work::CallRefineReturn => rounds(on, count, |store, _| {
+            store.call(task, 16, zero | 4)?;
+            store.refine(task, 0, 4, zero | 4, zero | 4, zero | 1, zero | 2)?;
+            store.return_result(task, 8).map(|()| 0)
+        }),
+        Work::Fault => rounds(on, count, |store, buffer| {
+            let refused = store.read(task, 16, zero | 1024, &mut buffer[..1]).is_err();
+            Ok(refused as u64)
+        }),
+    }
+}
+
+// Task 1 has 16 slots. Its slots 1 and 4 name an object of 1,024 bytes and 8 slots, 5 a control of type 16, 6 an object of
+// type 16, 7 the first object for reading only; 8 to 15 are free.
+fn load<B: Bank>(store: &mut Store<B>) -> Result<(), Fault> {
+    store.task(1, 16)?;
+    store.place(0, 1024, 8, 0)?;
+    store.place(0, 8, 1, 16)?;
+    store.control(0, 16, 3)?;
+    store.grant(1, 0, 1, 0, 0, 63)?;
+    store.grant(1, 0, 4, 0, 0, 63)?;
+    store.grant(1, 0, 5, 0, 2, 63)?;
+    store.grant(1, 0, 6, 0, 1, 33)?;
+    store.grant(1, 0, 7, 0, 0, 1)?;
+    store.grant(0, 0, 0, 0, 0, 63)?;
+    store.seal()
+}
+
+// Makes rounds of one step, and sums what each answers and a byte of the buffer. The store is of any type, since the bound of a
+// closure cannot name a store over any bank.
+fn rounds<S, F: Fn(&mut S, &mut [u8; LARGEST]) -> Result<u64, Fault>>(
+    store: &mut S,
+    count: u32,
+    step: F,
+) -> Result<u64, Fault>
+    requires { F.IsAlwaysCallable step }
+{
+    let mut buffer = [7u8; LARGEST];
+    let mut sum = 0u64;
+    for i in 0..count {
+        let answered = step(store, &mut buffer)?;
+        let byte = buffer[i as usize % LARGEST];
+        sum = sum
+            .wrapping_mul(31)
+            .wrapping_add(answered)
+            .wrapping_add(byte as u64);
+    }
+    Ok(sum)
+}
