@@ -1,6 +1,7 @@
 -- Digits, one after the other.
 -- Assumes nothing.
-use Rattle.std.proofs.Common.{◌≡◌, ℕ, zero, suc, ◌+◌, ◌-◌, ◌*◌, ◌^◌, ◌<◌, ◌≤◌, true, false, ◌&&◌, leb, ◌⊎◌, List, [], ◌∷◌, ◌++◌, length, get_or, take, Some, None, sym, refl, inl, inr, arith, lit<, pow-add}
+use Rattle.std.proofs.Common.{◌≡◌, ℕ, zero, suc, ◌+◌, ◌-◌, ◌*◌, ◌^◌, ◌<◌, ◌≤◌, true, false, ◌&&◌, leb, ◌⊎◌, List, [], ◌∷◌, ◌++◌, length, get_or, take, Some, None, Ok, Err, Result, sym, refl, inl, inr, arith, lit<, pow-add}
+use Rattle.std.specs.Result.{OkIff, result_ok}
 use native.Mathlib.Nat.{pow-le-pow_right}
 use Rattle.std.proofs.lemmas.List.{take_more, take_all}
 use Rattle.std.proofs.lemmas.Bool.{and_parts, and_from, and_left, and_right, cond-false, leb-true, le-leb, lt-leb}
@@ -61,6 +62,10 @@ module _ (l : List ℕ) (n : ℕ) (r : Read l (length l) n) (low : 1 ≤ length 
       let digits : are_digits l ≡ true = rw whole at r.digits in
       let value : n ≡ value_from 0 l = rw whole at r.value in
       rw (digits, ← value, le-leb 1 (length l) low, le-leb (length l) 5 high, lt-leb n 65535 large)
+
+  pub number_result : {E : Type 0} (r : Result ℕ E) → OkIff r (n < 2 ^ 16) n → result_ok r ≡ number_of l
+  number_result (Ok x) fits = rw fits.1 (number_some (omega (arith, fits.0)))
+  number_result (Err e) large = number_large (omega (arith, large))
 
 pub number_none : (l : List ℕ) → are_digits l ≡ false → None ≡ number_of l
 unfolding number_of

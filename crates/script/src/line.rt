@@ -1,7 +1,7 @@
 // A line of a script: a call's word, a task and six numbers.
 use crate::word::Word;
 
-#[derive(Clone, Copy)]
+#[derive(Clone, Copy, Debug, PartialEq, Eq)]
 pub struct Line {
     pub word: Word,
     pub task: u16,
