@@ -8,15 +8,8 @@ const MOST_DIGITS: usize = 5;
 pub fn number(text: &[u8]) -> Option<u16>
     ensures { result ≡ number_of text.now }
 {
-    if text.is_empty() || text.len() > MOST_DIGITS {
+    if text.len() > MOST_DIGITS || !text.iter().all(|b| b.is_ascii_digit()) {
         return None;
     }
-    let mut value = 0u32;
-    for b in text {
-        if !b.is_ascii_digit() {
-            return None;
-        }
-        value = value * 10 + u32::from(*b - b'0');
-    }
-    u16::try_from(value).ok()
+    str::from_utf8(text).ok()?.parse().ok()
 }
