@@ -1,6 +1,6 @@
 -- What a text of digits writes.
 -- Assumes nothing.
-use Rattle.std.proofs.Common.{◌≡◌, ℕ, suc, ◌^◌, ◌<◌, ◌≤◌, true, false, ◌&&◌, leb, List, [], ◌∷◌, length, Some, None, Ok, Err, Result, Bor, inl, inr, sym, refl, ap, arith, rules}
+use Rattle.std.proofs.Common.{◌≡◌, ℕ, ◌^◌, ◌<◌, ◌≤◌, true, false, ◌&&◌, leb, List, [], ◌∷◌, length, Some, None, Ok, Err, Result, Bor, inl, inr, sym, refl, ap, arith, rules}
 use Rattle.std.proofs.lemmas.Bool.{and_left, and_right, cases_lt, cond-false, le-leb, lt-leb}
 use Rattle.std.proofs.lemmas.Fmt.{IsAscii-from_digits}
 use Rattle.std.proofs.lemmas.Str.{IsUtf8-from_ascii}

@@ -1,5 +1,5 @@
 // The calls of a script.
-ghost use Rattle.script.specs.Calls.{done_reply, fill_of, number_reply, run_of};
+ghost use Rattle.script.specs.Calls.{done_reply, number_reply, run_of};
 ghost use Rattle.tables.specs.Live.{state_of};
 ghost use Rattle.std.specs.Prelude.{◌≡◌};
 
@@ -48,23 +48,10 @@ pub fn run<B: Bank>(store: &mut Store<B>, line: Line) -> Reply
         Word::Control => store.control(a, b, c).into(),
         Word::Task => store.task(task, a).into(),
         Word::Grant => store.grant(a, b, c, d, e, f).into(),
-        Word::Fill => fill(store, line),
+        Word::Fill => match u8::try_from(line.d) {
+            Ok(byte) => store.fill(a, b, c, &[byte]).into(),
+            Err(_) => Reply::Bad,
+        },
         Word::Seal => store.seal().into(),
     }
-}
-
-fn fill<B: Bank>(store: &mut Store<B>, line: Line) -> Reply
-    ensures { (result, state_of store.new.directory (B.bytes store.new.bank)) ≡ fill_of line (state_of store.old.directory (B.bytes store.old.bank)) }
-{
-    let Ok(byte) = u8::try_from(line.d) else {
-        return Reply::Bad;
-    };
-    store
-        .fill(
-            u32::from(line.a),
-            u32::from(line.b),
-            u32::from(line.c),
-            &[byte],
-        )
-        .into()
 }

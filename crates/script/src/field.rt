@@ -20,8 +20,8 @@ pub fn cut(text: &[u8], separator: u8) -> (&[u8], Option<&[u8]>)
 
 // The lines of a text, each ended by a newline, which the last may lack.
 #[derive(Clone, Copy, Debug)]
-pub struct Lines<'a> {
-    pub rest: &'a [u8],
+pub(crate) struct Lines<'a> {
+    pub(crate) rest: &'a [u8],
 }
 
 impl<'a> Iterator for Lines<'a> {

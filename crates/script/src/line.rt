@@ -1,6 +1,7 @@
 // A line of a script: a call's word, a task and six numbers.
 use crate::word::Word;
 
+// The numbers have the names of the format's header; an array would call them by place.
 #[derive(Clone, Copy, Debug, PartialEq, Eq)]
 pub struct Line {
     pub word: Word,

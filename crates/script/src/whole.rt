@@ -13,7 +13,8 @@ use store::store::Store;
 
 const HEADER: &[u8] = b"do task a b c d e f";
 
-const LONGEST: usize = 16384;
+// The most bytes that a script may have.
+pub const LONGEST: usize = 16384;
 
 const BANK_BYTES: usize = 18432;
 
