@@ -4,9 +4,8 @@ use Rattle.std.proofs.Common.{◌≡◌, ℕ, Bool, true, false, List, [], ◌�
 use Rattle.std.specs.Prelude.{codes, not}
 use Rattle.std.specs.Option.{MatchOption, option_eq}
 use Rattle.std.specs.Str.{bytes_eq}
-use Rattle.script.specs.declared.reply.Reply.TheVariants.{Bad}
 use Rattle.script.specs.Text.{before, behind}
-use Rattle.script.specs.Replies.{fresh, header, lines_of, replies_of, rest_of, script_of, short, text_of}
+use Rattle.script.specs.Replies.{header, lines_of, rest_of}
 use Rattle.script.proofs.Turns.{lines_next}
 
 -- whether a line is there and is the header
@@ -38,16 +37,3 @@ first_line (b ∷ bs) rest (Some line) e =
     let next = lines_next (b ∷ bs) (omega arith) in
     let same : before 10 (b ∷ bs) ≡ line.now = cc (e, next) in
     (ap header same, λ h. cc (e, next))
-
-module _ (t : List ℕ) where
-  pub script_long : short t ≡ false → script_of t ≡ text_of Bad
-  unfolding script_of
-  script_long e = rw e
-
-  pub script_other : short t ≡ true → header (before 10 t) ≡ false → script_of t ≡ text_of Bad
-  unfolding script_of
-  script_other e h = rw (e, h)
-
-  pub script_lines : short t ≡ true → header (before 10 t) ≡ true → script_of t ≡ replies_of (lines_of (rest_of (behind 10 t))) fresh
-  unfolding script_of
-  script_lines e h = rw (e, h)

@@ -13,6 +13,7 @@ use std::fmt::Write;
 use store::store::Store;
 
 // The reply to one line.
+#[tactic(auto, unfolding(crate::specs::Replies::answer))]
 fn answer<B: Bank>(store: &mut Store<B>, text: &[u8]) -> Reply
     ensures { (result, state_of store.new.directory (B.bytes store.new.bank)) ≡ answer_of text.now (state_of store.old.directory (B.bytes store.old.bank)) }
 {

@@ -18,7 +18,8 @@ pub fn cut(text: &[u8], separator: u8) -> (&[u8], Option<&[u8]>)
     }
 }
 
-// The lines of a text, each ended by a newline, which the last may lack.
+// The lines of a text, each ended by a newline, which the last may lack. Unlike with `split`, no line begins behind the
+// last newline.
 #[derive(Clone, Copy, Debug)]
 pub(crate) struct Lines<'a> {
     pub(crate) rest: &'a [u8],

@@ -1,24 +1,26 @@
 use Rattle.std.proofs.Common.{◌≡◌, true, false, length, refl, ap, ◌∙◌, arith}
 use Rattle.std.specs.Prelude.{not}
 use Rattle.std.proofs.lemmas.Bool.{lt-leb, le-leb}
-use Rattle.script.specs.Replies.{short}
-use Rattle.script.proofs.Heads.{headed, headed_by, first_line, script_long, script_other, script_lines}
+use Rattle.script.specs.Replies.{script_of, short}
+use Rattle.script.proofs.Heads.{headed, headed_by, first_line}
 use Rattle.script.proofs.whole.answer_script.Goals as goal
 
 pub returns-then-input-gt-LONGEST : goal.returns-then-input-gt-LONGEST
-returns-then-input-gt-LONGEST c =
-    rw (script_long c.args.input.now (lt-leb (length c.args.input.now) 16384 (omega arith))) c.bad.ensures
+unfolding script_of
+returns-then-input-gt-LONGEST c = rw (lt-leb (length c.args.input.now) 16384 (omega arith)) c.bad.ensures
 
 pub returns-then-ne : goal.returns-then-ne
+unfolding script_of
 returns-then-ne c =
     let fits : short c.args.input.now ≡ true = le-leb (length c.args.input.now) 16384 (omega arith) in
     let first = first_line c.args.input.now c.next.new.self.rest.now c.next.result c.next.ensures.steps in
     let other : headed c.next.result ≡ false = headed_by c.next.result _ c.ne.result refl c.ne.ensures ∙ ap not c.if-ne.true in
-    rw (script_other c.args.input.now fits (first.0 ∙ other)) c.bad-then-ne.ensures
+    rw (fits, first.0 ∙ other) c.bad-then-ne.ensures
 
 pub returns : goal.returns
+unfolding script_of
 returns c =
     let fits : short c.args.input.now ≡ true = le-leb (length c.args.input.now) 16384 (omega arith) in
     let first = first_line c.args.input.now c.next.new.self.rest.now c.next.result c.next.ensures.steps in
     let equal : headed c.next.result ≡ true = headed_by c.next.result _ c.ne.result refl c.ne.ensures ∙ ap not c.if-ne.false in
-    rw (script_lines c.args.input.now fits (first.0 ∙ equal), first.1 equal) c.answer_lines.ensures
+    rw (fits, first.0 ∙ equal, first.1 equal) c.answer_lines.ensures
