@@ -1,16 +1,16 @@
 // Runs the script on standard input and prints its answers.
 #![tactic(auto)]
 
-use script::whole::answer_script;
+use script::whole::{LONGEST, answer_script};
 use std::io;
 use std::io::{Read, Write};
 
 // One byte more than a script may have.
-const ENOUGH: u64 = 16385;
+const ENOUGH: u64 = LONGEST as u64 + 1;
 
 fn main(rt: HostRuntime) -> io::Result<()> {
     let mut input = Vec::new(rt.alloc());
     rt.stdin().take(ENOUGH).read_to_end(&mut input)?;
-    let answers = answer_script(rt.alloc(), input.as_slice())?;
-    rt.stdout().write_all(answers.as_slice())
+    let answers = answer_script(rt.alloc(), &input)?;
+    rt.stdout().write_all(&answers)
 }

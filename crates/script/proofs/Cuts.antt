@@ -2,6 +2,7 @@
 -- Assumes nothing.
 use Rattle.std.proofs.Common.{◌≡◌, ℕ, zero, suc, ◌+◌, ◌<◌, ◌≤◌, List, [], ◌∷◌, length, get_or, take, drop, Some, None, refl, ◌∙◌, le_of_suc-le-suc, add-one, arith}
 use Rattle.std.proofs.lemmas.Bool.{eq-eqb, ne_eqb}
+use Rattle.std.specs.List.{AllWithin, HoldsAt}
 use Rattle.script.specs.Text.{before, behind}
 
 -- at is the place of the first separator, or the end
@@ -9,6 +10,12 @@ pub record First (sep : ℕ) (l : List ℕ) (at : ℕ) : Type 0 where
   pub within : at ≤ length l
   pub none : (k : ℕ) → k < at → get_or l k 0 ≡ sep → ⊥
   pub found : at < length l → get_or l at 0 ≡ sep
+
+pub first_some : (sep : ℕ) (l : List ℕ) (at : ℕ) → (at < length l) × HoldsAt (λ x. x ≡ sep) l at × AllWithin (λ x. x ≡ sep → ⊥) l 0 at → First sep l at
+first_some sep l at f = record { within = omega arith; none = λ k h. f.2 k 0 (omega arith) h; found = λ h. f.1 0 }
+
+pub first_none : (sep : ℕ) (l : List ℕ) → AllWithin (λ x. x ≡ sep → ⊥) l 0 (length l) → First sep l (length l)
+first_none sep l f = record { within = omega arith; none = λ k h. f k 0 (omega arith) h; found = λ h. absurd (omega arith) }
 
 later : {sep b : ℕ} {l : List ℕ} {at : ℕ} → First sep (b ∷ l) (suc at) → First sep l at
 later f = record { within = le_of_suc-le-suc f.within; none = λ k h. f.none (suc k) (omega arith); found = λ h. f.found (omega arith) }

@@ -1,5 +1,4 @@
 pub mod Cuts
 pub mod Digits
 pub mod Heads
-pub mod Sames
 pub mod Turns

@@ -18,23 +18,21 @@ abbrev pub done_reply : Result (Unit {0}) Fault → Reply
 done_reply (Ok x) = Done
 done_reply (Err f) = Refused f
 
-abbrev pub numbered : Result ℕ Fault × State → Reply × State
-numbered x = (number_reply x.0, x.1)
-
-abbrev pub finished : Result (Unit {0}) Fault × State → Reply × State
-finished x = (done_reply x.0, x.1)
+-- the reply to what a call answers, and the state after it
+abbrev pub replied : {X : Type 0} → (Result X Fault → Reply) → Result X Fault × State → Reply × State
+replied reply x = (reply x.0, x.1)
 
 -- fill takes one byte; a larger number makes the line bad
 abbrev pub fill_of : Line → State → Reply × State
-fill_of l s = cond (nat_le l.d 255) (finished (done s (fill_plan l.a l.b l.c (l.d ∷ []) s))) (Bad, s)
+fill_of l s = cond (nat_le l.d 255) (replied done_reply (done s (fill_plan l.a l.b l.c (l.d ∷ []) s))) (Bad, s)
 
 abbrev pub run_by : Word → Line → State → Reply × State
-run_by Place l s = numbered (done s (place_plan l.a l.b l.c l.d s))
-run_by Control l s = numbered (done s (control_plan l.a l.b l.c s))
-run_by Task l s = numbered (done s (task_plan l.task l.a s))
-run_by Grant l s = finished (done s (grant_plan l.a l.b l.c l.d l.e l.f s))
+run_by Place l s = replied number_reply (done s (place_plan l.a l.b l.c l.d s))
+run_by Control l s = replied number_reply (done s (control_plan l.a l.b l.c s))
+run_by Task l s = replied number_reply (done s (task_plan l.task l.a s))
+run_by Grant l s = replied done_reply (done s (grant_plan l.a l.b l.c l.d l.e l.f s))
 run_by Fill l s = fill_of l s
-run_by Seal l s = finished (done s (seal_plan s))
+run_by Seal l s = replied done_reply (done s (seal_plan s))
 
 -- which number of a line is which part of its call
 abbrev pub run_of : Line → State → Reply × State

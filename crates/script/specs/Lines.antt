@@ -12,11 +12,14 @@ None ≫? f = None
 Some x ≫? f = f x
 
 -- a field and a space, and what stands behind them
+abbrev pub field_then : {X : Type 0} → (List ℕ → Option X) → List ℕ → Option (X × List ℕ)
+field_then value_of t = value_of (before 32 t) ≫? λ x. behind 32 t ≫? λ u. Some (x, u)
+
 abbrev pub word_then : List ℕ → Option (Word × List ℕ)
-word_then t = word_of (before 32 t) ≫? λ w. behind 32 t ≫? λ u. Some (w, u)
+word_then = field_then word_of
 
 abbrev pub number_then : List ℕ → Option (ℕ × List ℕ)
-number_then t = number_of (before 32 t) ≫? λ n. behind 32 t ≫? λ u. Some (n, u)
+number_then = field_then number_of
 
 -- a field with nothing behind it
 abbrev pub ends : Option (List ℕ) → Option ℕ → Option ℕ

@@ -1,5 +1,6 @@
 -- What a script prints. Assumes nothing.
 use Rattle.std.specs.Prelude.{ℕ, Bool, cond, ◌&&◌, List, [], ◌∷◌, ◌++◌, length, replicate, Some, None, codes, decimal, Option, ◌==◌, nat_le}
+use Rattle.std.specs.Str.{bytes_eq}
 use Rattle.rules.specs.declared.fault.Layer.{Layer}
 use Rattle.rules.specs.Faults.{number_of, layer_of, letter_of}
 use Rattle.rules.specs.State.{State, empty}
@@ -9,17 +10,20 @@ use Rattle.script.specs.declared.reply.Reply.TheVariants.{Bad, Done, Number, Ref
 use Rattle.script.specs.Calls.{run_of}
 use Rattle.script.specs.Lines.{line_of}
 use Rattle.script.specs.Text.{before, behind}
-use Rattle.script.specs.Words.{same}
 
 abbrev pub letter_text : Layer → List ℕ
 letter_text l = letter_of l ∷ []
 
+-- what a reply shows
+abbrev pub shown : Reply → List ℕ
+shown Bad = codes "bad"
+shown Done = codes "ok"
+shown (Number n) = codes "ok " ++ decimal n
+shown (Refused f) = codes "fault " ++ (decimal (number_of f.reason) ++ (32 ∷ [] ++ (letter_text (layer_of f.reason) ++ (32 ∷ [] ++ decimal f.place))))
+
 -- every printed line ends with byte 10
 abbrev pub text_of : Reply → List ℕ
-text_of Bad = 98 ∷ 97 ∷ 100 ∷ 10 ∷ []
-text_of Done = 111 ∷ 107 ∷ 10 ∷ []
-text_of (Number n) = codes "ok " ++ (decimal n ++ 10 ∷ [])
-text_of (Refused f) = codes "fault " ++ (decimal (number_of f.reason) ++ (32 ∷ [] ++ (letter_text (layer_of f.reason) ++ (32 ∷ [] ++ (decimal f.place ++ 10 ∷ [])))))
+text_of r = shown r ++ 10 ∷ []
 
 -- a line that is no call is bad and calls nothing
 abbrev pub answer_by : Option Line → State → Reply × State
@@ -57,7 +61,7 @@ short t = nat_le (length t) 16384
 
 -- its first line is the header, byte for byte
 abbrev pub header : List ℕ → Bool
-header t = same t (codes "do task a b c d e f")
+header t = bytes_eq t (codes "do task a b c d e f")
 
 -- a longer input, or another first line, prints one bad; else every later line is answered
 unfoldable pub script_of : List ℕ → List ℕ

@@ -1,5 +1,5 @@
 // The calls of a script.
-ghost use Rattle.script.specs.Calls.{done_reply, fill_of, number_reply, run_of};
+ghost use Rattle.script.specs.Calls.{done_reply, number_reply, run_of};
 ghost use Rattle.tables.specs.Live.{state_of};
 ghost use Rattle.std.specs.Prelude.{◌≡◌};
 
@@ -10,21 +10,25 @@ use bank::Bank;
 use rules::fault::Fault;
 use store::store::Store;
 
-fn number_reply(r: Result<u32, Fault>) -> Reply
-    ensures { result ≡ number_reply r }
-{
-    match r {
-        Ok(n) => Reply::Number(n),
-        Err(fault) => Reply::Refused(fault),
+impl From<Result<u32, Fault>> for Reply {
+    ghost from_gives = { λ answer reply. reply ≡ number_reply answer };
+
+    fn from(answer: Result<u32, Fault>) -> Reply {
+        match answer {
+            Ok(n) => Reply::Number(n),
+            Err(fault) => Reply::Refused(fault),
+        }
     }
 }
 
-fn done_reply(r: Result<(), Fault>) -> Reply
-    ensures { result ≡ done_reply r }
-{
-    match r {
-        Ok(_) => Reply::Done,
-        Err(fault) => Reply::Refused(fault),
+impl From<Result<(), Fault>> for Reply {
+    ghost from_gives = { λ answer reply. reply ≡ done_reply answer };
+
+    fn from(answer: Result<(), Fault>) -> Reply {
+        match answer {
+            Ok(()) => Reply::Done,
+            Err(fault) => Reply::Refused(fault),
+        }
     }
 }
 
@@ -32,26 +36,22 @@ fn done_reply(r: Result<(), Fault>) -> Reply
 pub fn run<B: Bank>(store: &mut Store<B>, line: Line) -> Reply
     ensures { (result, state_of store.new.directory (B.bytes store.new.bank)) ≡ run_of line (state_of store.old.directory (B.bytes store.old.bank)) }
 {
-    let a = line.a as u32;
-    let b = line.b as u32;
-    let c = line.c as u32;
-    let d = line.d as u32;
+    let task = u32::from(line.task);
+    let a = u32::from(line.a);
+    let b = u32::from(line.b);
+    let c = u32::from(line.c);
+    let d = u32::from(line.d);
+    let e = u32::from(line.e);
+    let f = u32::from(line.f);
     match line.word {
-        Word::Place => number_reply(store.place(a, b, c, d)),
-        Word::Control => number_reply(store.control(a, b, c)),
-        Word::Task => number_reply(store.task(line.task as u32, a)),
-        Word::Grant => done_reply(store.grant(a, b, c, d, line.e as u32, line.f as u32)),
-        Word::Fill => fill(store, line),
-        Word::Seal => done_reply(store.seal()),
+        Word::Place => store.place(a, b, c, d).into(),
+        Word::Control => store.control(a, b, c).into(),
+        Word::Task => store.task(task, a).into(),
+        Word::Grant => store.grant(a, b, c, d, e, f).into(),
+        Word::Fill => match u8::try_from(line.d) {
+            Ok(byte) => store.fill(a, b, c, &[byte]).into(),
+            Err(_) => Reply::Bad,
+        },
+        Word::Seal => store.seal().into(),
     }
-}
-
-fn fill<B: Bank>(store: &mut Store<B>, line: Line) -> Reply
-    ensures { (result, state_of store.new.directory (B.bytes store.new.bank)) ≡ fill_of line (state_of store.old.directory (B.bytes store.old.bank)) }
-{
-    if line.d > 255 {
-        return Reply::Bad;
-    }
-    let byte = [line.d as u8];
-    done_reply(store.fill(line.a as u32, line.b as u32, line.c as u32, &byte))
 }

@@ -1,7 +1,8 @@
 // A line of a script: a call's word, a task and six numbers.
 use crate::word::Word;
 
-#[derive(Clone, Copy)]
+// The numbers have the names of the format's header; an array would call them by place.
+#[derive(Clone, Copy, Debug, PartialEq, Eq)]
 pub struct Line {
     pub word: Word,
     pub task: u16,

@@ -1,32 +1,15 @@
 // Numbers of a script.
-ghost use Rattle.script.specs.Text.{is_digit, number_of};
+ghost use Rattle.script.specs.Text.{number_of};
 ghost use Rattle.std.specs.Prelude.{◌≡◌};
 
 const MOST_DIGITS: usize = 5;
 
-fn is_digit(b: u8) -> bool
-    ensures { result ≡ is_digit b }
-{
-    48 <= b && b <= 57
-}
-
-// The number that a field writes: 1 to 5 digits, at most 65,535.
+// The number that a field writes: 1 to 5 digits, at most 65,535. A plus, with which `parse` lets a number begin, is no digit.
 pub fn number(text: &[u8]) -> Option<u16>
     ensures { result ≡ number_of text.now }
 {
-    if text.len() > MOST_DIGITS || text.len() == 0 {
+    if text.len() > MOST_DIGITS || text.starts_with(b"+") {
         return None;
     }
-    let mut value = 0u32;
-    for b in text {
-        if !is_digit(*b) {
-            return None;
-        }
-        value = value * 10 + (*b as u32 - 48);
-    }
-    if value <= 65535 {
-        Some(value as u16)
-    } else {
-        None
-    }
+    str::from_utf8(text).ok()?.parse().ok()
 }

@@ -1,19 +1,26 @@
 // How a reply is printed.
-ghost use Rattle.script.specs.Replies.{letter_text, text_of};
-ghost use Rattle.std.specs.Prelude.{◌≡◌, IfOk, string_bytes};
+ghost use Rattle.script.specs.Replies.{shown, text_of};
+ghost use Rattle.std.specs.Prelude.{◌≡◌, IfOk, Some, string_bytes};
 
 use crate::reply::Reply;
-use rules::fault::{Fault, Layer};
 use std::alloc::{AllocError, Global};
+use std::fmt;
 
-fn letter(layer: Layer) -> &'static str
-    ensures { result.now ≡ letter_text layer }
-{
-    match layer {
-        Layer::Call => "A",
-        Layer::Selector => "B",
-        Layer::Descriptor => "C",
-        Layer::Object => "D",
+impl fmt::Display for Reply {
+    ghost output = { λ reply. Some (shown reply) };
+
+    fn fmt<W: fmt::Write>(&self, f: &mut fmt::Formatter<W>) -> fmt::Result {
+        match self {
+            Reply::Bad => f.write_str("bad"),
+            Reply::Done => f.write_str("ok"),
+            Reply::Number(n) => write!(f, "ok {n}"),
+            Reply::Refused(fault) => {
+                let number = fault.reason.number();
+                let layer = char::from(fault.reason.layer().letter());
+                let place = fault.place;
+                write!(f, "fault {number} {layer} {place}")
+            }
+        }
     }
 }
 
@@ -21,19 +28,5 @@ fn letter(layer: Layer) -> &'static str
 pub fn reply_text(heap: Global, reply: Reply) -> Result<String, AllocError>
     ensures { IfOk result (λ t. string_bytes t ≡ text_of reply) }
 {
-    match reply {
-        Reply::Bad => String::from_str(heap, "bad\n"),
-        Reply::Done => String::from_str(heap, "ok\n"),
-        Reply::Number(n) => format!(in heap; "ok {n}\n"),
-        Reply::Refused(fault) => fault_text(heap, fault),
-    }
-}
-
-fn fault_text(heap: Global, fault: Fault) -> Result<String, AllocError>
-    ensures { IfOk result (λ t. string_bytes t ≡ text_of (Reply.Refused fault)) }
-{
-    let number = fault.reason.number();
-    let layer = letter(fault.reason.layer());
-    let place = fault.place;
-    format!(in heap; "fault {number} {layer} {place}\n")
+    format!(in heap; "{reply}\n")
 }

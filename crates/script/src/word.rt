@@ -1,7 +1,7 @@
 // The words of calls.
 
 // The calls that a script can make.
-#[derive(Clone, Copy)]
+#[derive(Clone, Copy, Debug, PartialEq, Eq)]
 pub enum Word {
     Place,
     Control,
@@ -10,3 +10,7 @@ pub enum Word {
     Fill,
     Seal,
 }
+
+// A field that is no call's word.
+#[derive(Clone, Copy, Debug, PartialEq, Eq)]
+pub struct UnknownWord;

@@ -1,41 +1,32 @@
 // Which word a field is.
-ghost use Rattle.script.specs.Words.{same as same_text, word_of};
+ghost use Rattle.script.specs.Words.{word_of};
 ghost use Rattle.std.specs.Prelude.{◌≡◌};
+ghost use Rattle.std.specs.Result.{result_ok};
 
-use crate::word::Word;
-
-// Whether two texts are the same.
-pub(crate) fn same(a: &[u8], b: &[u8]) -> bool
-    ensures { result ≡ same_text a.now b.now }
-{
-    if a.len() != b.len() {
-        return false;
-    }
-    for i in 0..a.len() {
-        if a[i] != b[i] {
-            return false;
-        }
-    }
-    true
-}
+use crate::word::{UnknownWord, Word};
 
 // The call that a word names.
-pub fn word(text: &[u8]) -> Option<Word>
-    ensures { result ≡ word_of text.now }
-{
-    if same(text, b"place") {
-        Some(Word::Place)
-    } else if same(text, b"control") {
-        Some(Word::Control)
-    } else if same(text, b"task") {
-        Some(Word::Task)
-    } else if same(text, b"grant") {
-        Some(Word::Grant)
-    } else if same(text, b"fill") {
-        Some(Word::Fill)
-    } else if same(text, b"seal") {
-        Some(Word::Seal)
-    } else {
-        None
+impl TryFrom<&[u8]> for Word {
+    type Error = UnknownWord;
+
+    ghost try_from_gives = { λ text word. result_ok word ≡ word_of text.now };
+
+    // Not a match on byte strings: a proof learns from its arms only how long the text is.
+    fn try_from(text: &[u8]) -> Result<Word, UnknownWord> {
+        if text == b"place".as_slice() {
+            Ok(Word::Place)
+        } else if text == b"control".as_slice() {
+            Ok(Word::Control)
+        } else if text == b"task".as_slice() {
+            Ok(Word::Task)
+        } else if text == b"grant".as_slice() {
+            Ok(Word::Grant)
+        } else if text == b"fill".as_slice() {
+            Ok(Word::Fill)
+        } else if text == b"seal".as_slice() {
+            Ok(Word::Seal)
+        } else {
+            Err(UnknownWord)
+        }
     }
 }

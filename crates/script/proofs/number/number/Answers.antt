@@ -1,23 +1,23 @@
-use Rattle.std.proofs.Common.{◌≡◌, length, inl, inr, ⊎_elim, arith, rules}
-use Rattle.script.proofs.Digits.{read_more, not_digits, number_some, number_large, number_none, number_length}
+use Rattle.std.proofs.Common.{◌≡◌, sym, ◌∙◌, arith}
+use Rattle.script.proofs.Digits.{long_number, number_read, plus_number, text_or_none}
+use Rattle.script.proofs.number.number.Goals.{then-text-gt-MOST_DIGITS-via-then-text-gt-MOST_DIGITS, then-text-gt-MOST_DIGITS-via-else-text-gt-MOST_DIGITS+then-starts_with}
 use Rattle.script.proofs.number.number.Goals as goal
 
 pub returns-then-text-gt-MOST_DIGITS : goal.returns-then-text-gt-MOST_DIGITS
 returns-then-text-gt-MOST_DIGITS c =
-    number_length c.args.text.now (⊎_elim inl (λ e. inr e.1) c.then-text-gt-MOST_DIGITS.either)
+    elim c.then-text-gt-MOST_DIGITS.branch [
+      | then-text-gt-MOST_DIGITS-via-then-text-gt-MOST_DIGITS w ↦ long_number c.args.text.now (omega (arith, w.if-text-gt-MOST_DIGITS.true))
+      | then-text-gt-MOST_DIGITS-via-else-text-gt-MOST_DIGITS+then-starts_with w ↦ plus_number c.args.text.now (sym w.starts_with.ensures.value ∙ w.if-starts_with.true)
+    ]
 
-pub returns-then-not-is_digit : goal.returns-then-not-is_digit
-returns-then-not-is_digit c = number_none c.args.text.now (not_digits c.args.text.now c.loop-b.b-index (omega arith) (search rules))
+pub returns-in_err-ok : goal.returns-in_err-ok
+returns-in_err-ok c =
+    let text = text_or_none _ c.args.text.now c.from_utf8.result c.from_utf8.ensures.cases in
+    c.from_residual.ensures ∙ (rw (← c.in_err-ok.ensures.value) at text)
 
-pub loop-b-preserved : goal.loop-b-preserved
-loop-b-preserved c = read_more c.args.text.now c.loop-b.b-index c.loop-b.value c.loop-b.invariant (omega arith) (search rules)
-
-pub returns-then-value-le65535 : goal.returns-then-value-le65535
-returns-then-value-le65535 c =
-    let all : c.loop-b.b-index ≡ length c.args.text.now = omega arith in
-    number_some c.args.text.now c.loop-b.value (rw all at c.loop-b.invariant) (omega arith) (omega arith) (omega arith)
-
-pub returns-else-value-le65535 : goal.returns-else-value-le65535
-returns-else-value-le65535 c =
-    let all : c.loop-b.b-index ≡ length c.args.text.now = omega arith in
-    number_large c.args.text.now c.loop-b.value (rw all at c.loop-b.invariant) (omega arith) (omega arith) (omega arith)
+pub returns : goal.returns
+returns c =
+    let text = text_or_none _ c.args.text.now c.from_utf8.result c.from_utf8.ensures.cases in
+    let same : c.in_ok-ok.field-0.now ≡ c.args.text.now = rw (← c.in_ok-ok.ensures.value) at text in
+    let plain = sym c.starts_with.ensures.value ∙ c.if-starts_with.false in
+    rw c.ok-2.ensures.value (number_read c.args.text.now (omega arith) c.parse.result (rw same at c.parse.ensures.value.0) plain)

@@ -1,25 +1,26 @@
-use Rattle.std.proofs.Common.{◌≡◌, true, false, rules}
-use Rattle.script.specs.Replies.{header, rest_of, short}
-use Rattle.script.specs.Text.{before, behind}
-use Rattle.script.proofs.Heads.{script_long, script_other, script_lines}
+use Rattle.std.proofs.Common.{◌≡◌, true, false, length, refl, ap, ◌∙◌, arith}
+use Rattle.std.specs.Prelude.{not}
+use Rattle.std.proofs.lemmas.Bool.{lt-leb, le-leb}
+use Rattle.script.specs.Replies.{script_of, short}
+use Rattle.script.proofs.Heads.{headed, headed_by, first_line}
 use Rattle.script.proofs.whole.answer_script.Goals as goal
 
-pub returns-then-not-is_short : goal.returns-then-not-is_short
-returns-then-not-is_short c =
-    let long : short c.args.input.now ≡ false = search rules in
-    rw (script_long c.args.input.now long) c.bad.ensures
+pub returns-then-input-gt-LONGEST : goal.returns-then-input-gt-LONGEST
+unfolding script_of
+returns-then-input-gt-LONGEST c = rw (lt-leb (length c.args.input.now) 16384 (omega arith)) c.bad.ensures
 
-pub returns-then-not-is_header : goal.returns-then-not-is_header
-returns-then-not-is_header c =
-    let first : c.next_line.result.0.now ≡ before 10 c.args.input.now = c.next_line.ensures.first in
-    let fits : short c.args.input.now ≡ true = search rules in
-    let other : header c.next_line.result.0.now ≡ false = search rules in
-    rw (script_other c.args.input.now fits (rw first at other)) c.bad-then-not-is_header.ensures
+pub returns-then-ne : goal.returns-then-ne
+unfolding script_of
+returns-then-ne c =
+    let fits : short c.args.input.now ≡ true = le-leb (length c.args.input.now) 16384 (omega arith) in
+    let first = first_line c.args.input.now c.next.new.self.rest.now c.next.result c.next.ensures.steps in
+    let other : headed c.next.result ≡ false = headed_by c.next.result _ c.ne.result refl c.ne.ensures ∙ ap not c.if-ne.true in
+    rw (fits, first.0 ∙ other) c.bad-then-ne.ensures
 
 pub returns : goal.returns
+unfolding script_of
 returns c =
-    let first : c.next_line.result.0.now ≡ before 10 c.args.input.now = c.next_line.ensures.first in
-    let others : c.next_line.result.1.now ≡ rest_of (behind 10 c.args.input.now) = c.next_line.ensures.others in
-    let fits : short c.args.input.now ≡ true = search rules in
-    let equal : header c.next_line.result.0.now ≡ true = search rules in
-    rw (script_lines c.args.input.now fits (rw first at equal), ← others) c.answer_lines.ensures
+    let fits : short c.args.input.now ≡ true = le-leb (length c.args.input.now) 16384 (omega arith) in
+    let first = first_line c.args.input.now c.next.new.self.rest.now c.next.result c.next.ensures.steps in
+    let equal : headed c.next.result ≡ true = headed_by c.next.result _ c.ne.result refl c.ne.ensures ∙ ap not c.if-ne.false in
+    rw (fits, first.0 ∙ equal, first.1 equal) c.answer_lines.ensures
