@@ -1,60 +1,82 @@
--- What a text of digits writes.
+-- Digits, one after the other.
 -- Assumes nothing.
-use Rattle.std.proofs.Common.{◌≡◌, ℕ, ◌^◌, ◌<◌, ◌≤◌, true, false, ◌&&◌, eqb, leb, List, [], ◌∷◌, length, get_or, Some, None, Ok, Err, Result, Bor, inl, inr, sym, arith, rules}
-use Rattle.std.proofs.lemmas.Bool.{and_left, and_parts, and_right, both_ways, cases_Bool, cases_lt, cond-false, eqb-true, le-leb, lt-leb}
-use Rattle.std.proofs.lemmas.Fmt.{IsAscii-from_digits}
-use Rattle.std.proofs.lemmas.Str.{IsUtf8-from_ascii}
-use Rattle.std.proofs.lemmas.Str.Parse.{IsNumeralModel, numerals_by_fold, parse_plain}
-use Rattle.std.specs.List.{starts_with}
-use Rattle.std.specs.Option.{MatchOption}
-use Rattle.std.specs.Result.{MatchResult, OkIff, result_ok}
-use Rattle.std.specs.Str.{IsUtf8}
-use Rattle.std.specs.Str.Parse.{ParsesUnsigned}
-use Rattle.script.specs.Text.{are_digits, value_from, number_of}
+use Rattle.std.proofs.Common.{◌≡◌, ℕ, zero, suc, ◌+◌, ◌-◌, ◌*◌, ◌^◌, ◌<◌, ◌≤◌, true, false, ◌&&◌, leb, ◌⊎◌, List, [], ◌∷◌, ◌++◌, length, get_or, take, Some, None, Ok, Err, Result, sym, refl, inl, inr, arith, lit<, pow-add}
+use Rattle.std.specs.Result.{OkIff, result_ok}
+use native.Mathlib.Nat.{pow-le-pow_right}
+use Rattle.std.proofs.lemmas.List.{take_more, take_all}
+use Rattle.std.proofs.lemmas.Bool.{and_parts, and_from, and_left, and_right, cond-false, leb-true, le-leb, lt-leb}
+use Rattle.script.specs.Text.{is_digit, are_digits, value_from, number_of}
 
-own : IsNumeralModel (λ l. are_digits l ≡ true) (value_from 0)
-own = numerals_by_fold _ (search rules) value_from (search rules)
+pub value_push : (n : ℕ) (bs : List ℕ) (b : ℕ) → value_from n (bs ++ b ∷ []) ≡ value_from n bs * 10 + (b - 48)
+value_push n [] b = refl
+value_push n (c ∷ bs) b = value_push (n * 10 + (c - 48)) bs b
 
-no_number : (l : List ℕ) → are_digits l ≡ false → None ≡ number_of l
-unfolding number_of
-no_number l e = rw e
+pub digits_push : (bs : List ℕ) (b : ℕ) → are_digits bs ≡ true → is_digit b ≡ true → are_digits (bs ++ b ∷ []) ≡ true
+digits_push [] b e d = rw d
+digits_push (c ∷ bs) b e d =
+    let both : (is_digit c ≡ true) × (are_digits bs ≡ true) = and_parts (is_digit c) (are_digits bs) e in
+    and_from (is_digit c) (are_digits (bs ++ b ∷ [])) both.0 (digits_push bs b both.1 d)
 
-pub long_number : (l : List ℕ) → 5 < length l → None ≡ number_of l
-unfolding number_of
-long_number l long = sym (cond-false (are_digits l && leb 1 (length l) && leb (length l) 5 && leb (value_from 0 l) 65535) (Some (value_from 0 l)) None
-    (and_left (are_digits l && leb 1 (length l) && leb (length l) 5) (leb (value_from 0 l) 65535) (and_right (are_digits l && leb 1 (length l)) (leb (length l) 5) (lt-leb (length l) 5 long))))
+-- the digits passed, and the number that they write
+pub record Read (l : List ℕ) (i n : ℕ) : Type 0 where
+  pub digits : are_digits (take i l) ≡ true
+  pub value : n ≡ value_from 0 (take i l)
+  pub small : n < 10 ^ i
 
-pub plus_number : (l : List ℕ) → starts_with eqb l (43 ∷ []) ≡ true → None ≡ number_of l
-plus_number [] e = cc
-plus_number (b ∷ l) e = no_number (b ∷ l) (rw (← eqb-true 43 b (and_parts (eqb 43 b) true e).0))
+pub read_none : (l : List ℕ) → Read l 0 0
+read_none l = record { digits = refl; value = refl; small = lit< tt }
 
-plain : (l : List ℕ) → starts_with eqb l (43 ∷ []) ≡ false → get_or l 0 0 ≡ 43 → ⊥
-plain [] e h = omega arith
-plain (b ∷ l) e h = both_ways (eqb 43 b && true) e (rw h)
+pub read_more : (l : List ℕ) (i n : ℕ) → Read l i n → i < length l → is_digit (get_or l i 0) ≡ true → Read l (i + 1) (n * 10 + (get_or l i 0 - 48))
+read_more l i n r h d =
+    let more = take_more l i 0 h in
+    let high : get_or l i 0 ≤ 57 = leb-true (get_or l i 0) 57 (and_parts (leb 48 (get_or l i 0)) (leb (get_or l i 0) 57) d).1 in
+    record {
+      digits = rw more (digits_push (take i l) (get_or l i 0) r.digits d);
+      value = rw (r.value, more) (sym (value_push 0 (take i l) (get_or l i 0)));
+      small = omega (arith, pow-add 10 i 1, r.small);
+    }
 
--- what `from_utf8` makes of a text
-pub text_or_none : {E : Type 0} (Q : E → Type 0) (l : List ℕ) (r : Result (Bor (List ℕ)) E) → MatchResult r (λ s. (s.now ≡ l) × IsUtf8 l) (λ e. ¬ (IsUtf8 l) × Q e) →
-    MatchOption (result_ok r) (None ≡ number_of l) (λ s. s.now ≡ l)
-text_or_none Q l (Ok s) is = is.0
-text_or_none Q l (Err e) is = elim (cases_Bool (are_digits l)) [
-  | inl digits ↦ absurd (is.0 (IsUtf8-from_ascii l (IsAscii-from_digits l (own.to l digits))))
-  | inr other ↦ no_number l other
-]
+pub few : (l : List ℕ) (i n : ℕ) → Read l i n → i ≤ 4 → n < 10000
+few l i n r h = omega (arith, pow-le-pow_right {n = 10} (lit< tt) {i = i} {j = 4} h, r.small)
 
-module _ (l : List ℕ) (short : length l ≤ 5) where
-  read : {E : Type 0} (r : Result ℕ E) → OkIff r ((are_digits l ≡ true) × (0 < length l) × (value_from 0 l < 2 ^ 16)) (value_from 0 l) → result_ok r ≡ number_of l
+pub not_digits : (l : List ℕ) (i : ℕ) → i < length l → is_digit (get_or l i 0) ≡ false → are_digits l ≡ false
+not_digits [] i h e = absurd (omega arith)
+not_digits (b ∷ l) zero h e = rw e
+not_digits (b ∷ l) (suc i) h e = and_right (is_digit b) (are_digits l) (not_digits l i (omega arith) e)
+
+-- a text of 1 to 5 digits is its number, or too large
+module _ (l : List ℕ) (n : ℕ) (r : Read l (length l) n) (low : 1 ≤ length l) (high : length l ≤ 5) where
+  whole : take (length l) l ≡ l
+  whole = take_all (length l) l (omega arith)
+
+  pub number_some : n ≤ 65535 → Some n ≡ number_of l
   unfolding number_of
-  read (Ok n) fits = rw (fits.1, fits.0.0, le-leb 1 (length l) fits.0.1, le-leb (length l) 5 short, le-leb (value_from 0 l) 65535 (omega arith))
-  read (Err e) not = elim (cases_Bool (are_digits l)) [
-    | inr other ↦ no_number l other
-    | inl digits ↦ elim (cases_lt 0 (length l)) [
-      | inr none ↦ rw (digits, lt-leb 1 (length l) (omega arith))
-      | inl some ↦ elim (cases_lt (value_from 0 l) 65536) [
-        | inl small ↦ absurd (not (digits, some, small))
-        | inr large ↦ rw (digits, le-leb 1 (length l) some, le-leb (length l) 5 short, lt-leb (value_from 0 l) 65535 large)
-      ]
-    ]
-  ]
+  number_some small =
+      let digits : are_digits l ≡ true = rw whole at r.digits in
+      let value : n ≡ value_from 0 l = rw whole at r.value in
+      rw (digits, ← value, le-leb 1 (length l) low, le-leb (length l) 5 high, le-leb n 65535 small)
 
-  pub number_read : {E : Type 0} (r : Result ℕ E) → ParsesUnsigned 16 10 l r → starts_with eqb l (43 ∷ []) ≡ false → result_ok r ≡ number_of l
-  number_read r parsed e = read r (parse_plain own 16 l r parsed (plain l e))
+  pub number_large : 65535 < n → None ≡ number_of l
+  unfolding number_of
+  number_large large =
+      let digits : are_digits l ≡ true = rw whole at r.digits in
+      let value : n ≡ value_from 0 l = rw whole at r.value in
+      rw (digits, ← value, le-leb 1 (length l) low, le-leb (length l) 5 high, lt-leb n 65535 large)
+
+  pub number_result : {E : Type 0} (r : Result ℕ E) → OkIff r (n < 2 ^ 16) n → result_ok r ≡ number_of l
+  number_result (Ok x) fits = rw fits.1 (number_some (omega (arith, fits.0)))
+  number_result (Err e) large = number_large (omega (arith, large))
+
+pub number_none : (l : List ℕ) → are_digits l ≡ false → None ≡ number_of l
+unfolding number_of
+number_none l e = rw e
+
+pub number_length : (l : List ℕ) → (5 < length l) ⊎ (length l ≡ 0) → None ≡ number_of l
+unfolding number_of
+number_length l h = sym (cond-false (are_digits l && leb 1 (length l) && leb (length l) 5 && leb (value_from 0 l) 65535) (Some (value_from 0 l)) None (wrong h))
+  where
+    wrong : (5 < length l) ⊎ (length l ≡ 0) → (are_digits l && leb 1 (length l) && leb (length l) 5 && leb (value_from 0 l) 65535) ≡ false
+    wrong (inl long) = and_left (are_digits l && leb 1 (length l) && leb (length l) 5) (leb (value_from 0 l) 65535) (and_right (are_digits l && leb 1 (length l)) (leb (length l) 5) (lt-leb (length l) 5 long))
+    wrong (inr none) =
+        and_left (are_digits l && leb 1 (length l) && leb (length l) 5) (leb (value_from 0 l) 65535)
+        (and_left (are_digits l && leb 1 (length l)) (leb (length l) 5) (and_right (are_digits l) (leb 1 (length l)) (lt-leb 1 (length l) (omega arith))))

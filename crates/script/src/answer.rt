@@ -1,7 +1,6 @@
 // What the lines of a script answer.
 ghost use Rattle.script.specs.Replies.{answer as answer_of, lines_of, replies_of};
 ghost use Rattle.std.specs.Prelude.{◌≡◌, IfOk};
-ghost use Rattle.tables.specs.Live.{state_of};
 
 use crate::calls::run;
 use crate::field::Lines;
@@ -15,7 +14,7 @@ use store::store::Store;
 // The reply to one line.
 #[tactic(auto, unfolding(crate::specs::Replies::answer))]
 fn answer<B: Bank>(store: &mut Store<B>, text: &[u8]) -> Reply
-    ensures { (result, state_of store.new.directory (B.bytes store.new.bank)) ≡ answer_of text.now (state_of store.old.directory (B.bytes store.old.bank)) }
+    ensures { (result, store.new) ≡ answer_of text.now store.old }
 {
     match line(text) {
         Some(l) => run(store, l),
@@ -29,7 +28,7 @@ pub(crate) fn answers<B: Bank>(
     store: &mut Store<B>,
     lines: Lines<'_>,
 ) -> Result<Vec<u8>, AllocError>
-    ensures { IfOk result (λ v. v.items ≡ replies_of (lines_of lines.entry.rest.now) (state_of store.old.directory (B.bytes store.old.bank))) }
+    ensures { IfOk result (λ v. v.items ≡ replies_of (lines_of lines.entry.rest.now) store.old) }
 {
     let mut out = String::new(heap);
     for text in lines {

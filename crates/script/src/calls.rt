@@ -1,6 +1,5 @@
 // The calls of a script.
 ghost use Rattle.script.specs.Calls.{done_reply, number_reply, run_of};
-ghost use Rattle.tables.specs.Live.{state_of};
 ghost use Rattle.std.specs.Prelude.{◌≡◌};
 
 use crate::line::Line;
@@ -34,7 +33,7 @@ impl From<Result<(), Fault>> for Reply {
 
 // Makes the call of a line.
 pub fn run<B: Bank>(store: &mut Store<B>, line: Line) -> Reply
-    ensures { (result, state_of store.new.directory (B.bytes store.new.bank)) ≡ run_of line (state_of store.old.directory (B.bytes store.old.bank)) }
+    ensures { (result, store.new) ≡ run_of line store.old }
 {
     let task = u32::from(line.task);
     let a = u32::from(line.a);

@@ -4,12 +4,20 @@ ghost use Rattle.std.specs.Prelude.{◌≡◌};
 
 const MOST_DIGITS: usize = 5;
 
-// The number that a field writes: 1 to 5 digits, at most 65,535. A plus, with which `parse` lets a number begin, is no digit.
+// The number that a field writes: 1 to 5 digits, at most 65,535. Not by `parse`, which takes a plus, and with which a line of a
+// script costs a fifth more.
 pub fn number(text: &[u8]) -> Option<u16>
     ensures { result ≡ number_of text.now }
 {
-    if text.len() > MOST_DIGITS || text.starts_with(b"+") {
+    if text.is_empty() || text.len() > MOST_DIGITS {
         return None;
     }
-    str::from_utf8(text).ok()?.parse().ok()
+    let mut value = 0u32;
+    for b in text {
+        if !b.is_ascii_digit() {
+            return None;
+        }
+        value = value * 10 + u32::from(*b - b'0');
+    }
+    u16::try_from(value).ok()
 }

@@ -1,7 +1,7 @@
 // What a line of a script answers.
 use rules::fault::Fault;
 
-#[derive(Clone, Copy)]
+#[derive(Clone, Copy, Debug, PartialEq, Eq)]
 pub enum Reply {
     Bad,
     Done,

@@ -1,6 +1,5 @@
 use Rattle.std.proofs.Common.{vec_items, ap, ◌∙◌}
 use Rattle.std.proofs.lemmas.List.{append-nil}
-use Rattle.tables.specs.Live.{state_of}
 use Rattle.script.proofs.Turns.{turn, no_turn}
 use Rattle.script.proofs.answer.answers.Goals as goal
 
@@ -11,5 +10,5 @@ loop-text-preserved g c =
 
 pub returns : goal.returns
 returns g c =
-    let s = state_of c.loop-text.store.directory (g.B.Bank.bytes c.loop-text.store.bank) in
+    let s = c.loop-text.store in
     ap vec_items c.into_bytes.ensures.value ∙ (rw (c.in-None.ensures.steps.0, no_turn s, append-nil) at c.loop-text.invariant)

@@ -1,23 +1,29 @@
-use Rattle.std.proofs.Common.{◌≡◌, sym, ◌∙◌, arith}
-use Rattle.script.proofs.Digits.{long_number, number_read, plus_number, text_or_none}
-use Rattle.script.proofs.number.number.Goals.{then-text-gt-MOST_DIGITS-via-then-text-gt-MOST_DIGITS, then-text-gt-MOST_DIGITS-via-else-text-gt-MOST_DIGITS+then-starts_with}
+use Rattle.std.proofs.Common.{◌≡◌, ◌≤◌, true, false, length, get_or, inl, inr, arith, rules}
+use Rattle.std.proofs.lemmas.Bool.Decides.{nat_tests}
+use Rattle.script.specs.Text.{is_digit}
+use Rattle.script.proofs.Digits.{read_more, not_digits, number_result, number_none, number_length}
+use Rattle.script.proofs.number.number.Goals.{then-is_empty-via-then-is_empty, then-is_empty-via-else-is_empty+then-text-gt-MOST_DIGITS}
 use Rattle.script.proofs.number.number.Goals as goal
 
-pub returns-then-text-gt-MOST_DIGITS : goal.returns-then-text-gt-MOST_DIGITS
-returns-then-text-gt-MOST_DIGITS c =
-    elim c.then-text-gt-MOST_DIGITS.branch [
-      | then-text-gt-MOST_DIGITS-via-then-text-gt-MOST_DIGITS w ↦ long_number c.args.text.now (omega (arith, w.if-text-gt-MOST_DIGITS.true))
-      | then-text-gt-MOST_DIGITS-via-else-text-gt-MOST_DIGITS+then-starts_with w ↦ plus_number c.args.text.now (sym w.starts_with.ensures.value ∙ w.if-starts_with.true)
-    ]
+pub returns-then-is_empty : goal.returns-then-is_empty
+returns-then-is_empty c =
+    number_length c.args.text.now (elim c.then-is_empty.branch [
+      | then-is_empty-via-then-is_empty w ↦ inr (search rules)
+      | then-is_empty-via-else-is_empty+then-text-gt-MOST_DIGITS w ↦ inl (omega (arith, w.if-text-gt-MOST_DIGITS.true))
+    ])
 
-pub returns-in_err-ok : goal.returns-in_err-ok
-returns-in_err-ok c =
-    let text = text_or_none _ c.args.text.now c.from_utf8.result c.from_utf8.ensures.cases in
-    c.from_residual.ensures ∙ (rw (← c.in_err-ok.ensures.value) at text)
+pub returns-then-not-is_ascii_digit : goal.returns-then-not-is_ascii_digit
+returns-then-not-is_ascii_digit c =
+    let other : is_digit (get_or c.args.text.now c.loop-b.b-index 0) ≡ false = search rules in
+    number_none c.args.text.now (not_digits c.args.text.now c.loop-b.b-index (omega arith) other)
+
+pub loop-b-preserved : goal.loop-b-preserved
+loop-b-preserved c =
+    let digit : is_digit (get_or c.args.text.now c.loop-b.b-index 0) ≡ true = search rules in
+    rw c.from.ensures (read_more c.args.text.now c.loop-b.b-index c.loop-b.value c.loop-b.invariant (omega arith) digit)
 
 pub returns : goal.returns
 returns c =
-    let text = text_or_none _ c.args.text.now c.from_utf8.result c.from_utf8.ensures.cases in
-    let same : c.in_ok-ok.field-0.now ≡ c.args.text.now = rw (← c.in_ok-ok.ensures.value) at text in
-    let plain = sym c.starts_with.ensures.value ∙ c.if-starts_with.false in
-    rw c.ok-2.ensures.value (number_read c.args.text.now (omega arith) c.parse.result (rw same at c.parse.ensures.value.0) plain)
+    let all : c.loop-b.b-index ≡ length c.args.text.now = omega arith in
+    let some : 1 ≤ length c.args.text.now = grind (arith, nat_tests) in
+    rw c.ok.ensures.value (number_result c.args.text.now c.loop-b.value (rw all at c.loop-b.invariant) some (omega arith) c.try_from.result c.try_from.ensures)
