@@ -6,9 +6,9 @@ use Rattle.bank.specs.Runs.{read_run, write_run}
 use Rattle.rules.specs.declared.entry.Entry.{Entry}
 use Rattle.rules.specs.declared.entry.Entry.TheVariants.{Object}
 use Rattle.rules.specs.declared.fault.Reason.TheVariants.{NullEnvironment, NotDeletable, OutOfRange, NoRoom}
-use Rattle.rules.specs.State.{State, no_table, empty, table, stack, level, entry, word_at, word_bytes, encode, decode, valid, named, has, shown, slot_at, byte_at, held, read, write, delete}
-use Rattle.rules.specs.Tests.{◌≫=◌, check, some, choose, refusal, refusal_at, loading, operator, environment, resolve, source_or_null, source, source_with, destination, in_range, storable, has_room, room}
-use Rattle.rules.specs.Effects.{overwrite, put, with_table, with_stack, grown, add, new_object, enter, leave, sealing, apply, done}
+use Rattle.rules.specs.State.{State, no_table, empty, table, stack, level, entry, word_at, word_bytes, encode, decode, valid, named, has, shown, held, read, write, delete}
+use Rattle.rules.specs.Tests.{refusal, refusal_at, loading, operator, environment, resolve, source_or_null, source, source_with, destination, has_room}
+use Rattle.rules.specs.Effects.{overwrite, put, with_table, with_stack, grown, add, new_object, enter, leave, sealing}
 use Rattle.rules.specs.Loading.{adding, making, place_plan, starting, task_plan, grant_plan, seal_plan}
 use Rattle.rules.specs.Operators.{makes, null_plan, create_plan, read_plan, write_plan, see_plan, call_plan, return_plan}
 use Rattle.examples.specs.Listing.{Gives}
@@ -16,8 +16,8 @@ use Rattle.examples.specs.Listing.{Gives}
 -- the definitions of the calls, opened; what stays shut are the words of descriptors and the runs of bytes
 opened : Unit {0}
 unfolding empty table stack level entry shown held
-    ◌≫=◌ check some choose loading operator environment resolve source_or_null source source_with destination in_range storable has_room room
-    overwrite put with_table with_stack grown add new_object enter leave sealing apply done
+    loading operator environment resolve source_or_null source source_with destination has_room
+    overwrite put with_table with_stack grown add new_object enter leave sealing
     adding making place_plan starting task_plan grant_plan seal_plan makes null_plan create_plan read_plan write_plan see_plan call_plan return_plan
 opened = tt
 
