@@ -10,7 +10,7 @@ const ATTITUDE: u32 = 1;
 
 const SCIENCE: u32 = 3;
 
-pub fn steps(replay: &mut Replay) -> io::Result<()> {
+pub(crate) fn steps(replay: &mut Replay) -> io::Result<()> {
     replay.step("load: both tasks", load)?;
     replay.step(
         "the attitude task begins a slew",

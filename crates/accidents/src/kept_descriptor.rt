@@ -11,7 +11,7 @@ const TASK: u32 = 1;
 // The selector of slot 0 of what slot 1 names.
 const KEPT: u16 = 1;
 
-pub fn steps(replay: &mut Replay) -> io::Result<()> {
+pub(crate) fn steps(replay: &mut Replay) -> io::Result<()> {
     replay.step(
         "load: an object with one slot, to keep things in, in slot 2",
         load,

@@ -6,14 +6,14 @@ use store::store::Store;
 
 // The bank is a plain one, since the bound of a closure cannot name a store over any bank.
 #[derive(Drop)]
-pub struct Replay<'a> {
-    pub rt: &'a HostRuntime,
-    pub store: Store<PlainBank<'a>>,
+pub(crate) struct Replay<'a> {
+    pub(crate) rt: &'a HostRuntime,
+    pub(crate) store: Store<PlainBank<'a>>,
     faults: Vec<Fault>,
 }
 
 // Prints a title, the steps on a new store, and the faults that they met.
-pub fn run<F: FnOnce(&mut Replay) -> io::Result<()>>(
+pub(crate) fn run<F: FnOnce(&mut Replay) -> io::Result<()>>(
     rt: &HostRuntime,
     title: &str,
     steps: F,
@@ -39,7 +39,7 @@ impl<'a> Replay<'a> {
     }
 
     // Makes a call, prints it as a step with what it answered, and notes a fault.
-    pub fn step<F: FnOnce(&mut Store<PlainBank>) -> Result<(), Fault>>(
+    pub(crate) fn step<F: FnOnce(&mut Store<PlainBank>) -> Result<(), Fault>>(
         &mut self,
         what: &str,
         call: F,
@@ -57,7 +57,7 @@ impl<'a> Replay<'a> {
     }
 
     // Reads bytes of an object and prints them, or that they cannot be read.
-    pub fn show_bytes(
+    pub(crate) fn show_bytes(
         &self,
         task: u32,
         source: u16,

@@ -2,7 +2,7 @@
 ghost use Rattle.std.specs.Prelude.{◌≡◌, ◌*◌, ◌<◌};
 
 // A slot of the current context.
-pub fn slot(number: u16) -> u16
+pub(crate) fn slot(number: u16) -> u16
     requires { number < 64 }
     ensures { result ≡ 4 * number }
 {

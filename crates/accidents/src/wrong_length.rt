@@ -11,7 +11,7 @@ const ATTITUDE: u32 = 1;
 
 const CAMERA: u32 = 2;
 
-pub fn steps(replay: &mut Replay) -> io::Result<()> {
+pub(crate) fn steps(replay: &mut Replay) -> io::Result<()> {
     replay.step("load: a frame of 64 bytes, then the record of 6", load)?;
     let record = Record {
         x: 18620,

@@ -28,6 +28,7 @@ pub trait Unit: Copy {
         requires { length units.now ≡ length out.old }
         ensures { out.new ≡ bytes_of units.now }
     {
+        // By place: of a `zip` with `iter_mut` the proof does not learn what it leaves.
         for (i, unit) in units.iter().enumerate() {
             out[i] = unit.decode();
         }
@@ -38,6 +39,7 @@ pub trait Unit: Copy {
         requires { length units.old ≡ length source.now }
         ensures { units.new ≡ units_of source.now }
     {
+        // By place, for the same reason.
         for (i, byte) in source.iter().enumerate() {
             units[i] = Self::encode(*byte);
         }

@@ -32,6 +32,7 @@ fn main(rt: HostRuntime) -> io::Result<()> {
         task: rest.saturating_sub(3),
         zero: rest.saturating_sub(4),
     };
+    // Two arms, since the units of their memory are of two types.
     match bank {
         BankKind::Plain => {
             let mut memory = vec![in rt.alloc(); 0u8; UNITS]?;

@@ -2,13 +2,13 @@
 use std::str::FromStr;
 
 #[derive(Clone, Copy, Debug, PartialEq, Eq)]
-pub enum BankKind {
+pub(crate) enum BankKind {
     Plain,
     Coded,
 }
 
 #[derive(Clone, Copy, Debug, PartialEq, Eq)]
-pub enum Work {
+pub(crate) enum Work {
     Copy,
     CopyEnv,
     Null,
@@ -26,7 +26,7 @@ pub enum Work {
 
 // A name of neither.
 #[derive(Clone, Copy, Debug, PartialEq, Eq)]
-pub struct UnknownName;
+pub(crate) struct UnknownName;
 
 impl FromStr for BankKind {
     type Err = UnknownName;

@@ -8,13 +8,13 @@ const LARGEST: usize = 1024;
 
 // What a round hands over. Its numbers are made of arguments of the program, so that the compiler does not know them.
 #[derive(Clone, Copy)]
-pub struct Numbers {
-    pub task: u32,
-    pub zero: u32,
+pub(crate) struct Numbers {
+    pub(crate) task: u32,
+    pub(crate) zero: u32,
 }
 
 // The checksum of rounds of a kind of work on a new store over a bank.
-pub fn sum<B: Bank + Drop>(
+pub(crate) fn sum<B: Bank + Drop>(
     bank: B,
     work: Work,
     count: u32,
@@ -93,6 +93,7 @@ fn rounds<S, F: Fn(&mut S, &mut [u8; LARGEST]) -> Result<u64, Fault>>(
 {
     let mut buffer = [7u8; LARGEST];
     let mut sum = 0u64;
+    // A range: each round changes the buffer and counts.
     for i in 0..count {
         let answered = step(store, &mut buffer)?;
         let byte = buffer[i as usize % LARGEST];

@@ -4,7 +4,8 @@
 ghost use Rattle.examples.specs.Examples.{Examples};
 ghost use Rattle.std.specs.Prelude.{ℕ, ◌≤◌, List, length};
 
-// What a fault carries; the letter is that of its layer, as its ASCII code.
+// What a fault carries, in numbers and not as a `Fault`, since the examples are about the numbers; the letter is that of its layer,
+// as its ASCII code.
 pub struct Refusal {
     pub number: u8,
     pub letter: u8,

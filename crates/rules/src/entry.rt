@@ -15,6 +15,7 @@ pub struct Storage {
 #[derive(Clone, Copy, Debug, PartialEq, Eq)]
 pub struct TypeControl {
     pub kind: Kind,
+    // Any number, as the rules have it: a load call tests that it is at most 63.
     pub rights: u8,
 }
 

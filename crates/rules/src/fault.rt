@@ -28,7 +28,8 @@ pub enum Layer {
     Object,
 }
 
-// The place is the number of the operand, from 1 on, and the selector the one given, or both are 0.
+// The place is the number of the operand, from 1 on, and the selector the one given, or both are 0: numbers and no Option, since
+// logs and scripts print a fault's parts as they are.
 #[derive(Clone, Copy, Debug, PartialEq, Eq)]
 pub struct Fault {
     pub reason: Reason,

@@ -6,7 +6,7 @@ use crate::entry::{Entry, Refinement, Storage};
 use crate::shown::Shown;
 
 impl Shown {
-    // What shows nothing.
+    // What shows nothing. No Option: without slots and bytes, every test of a slot or a byte refuses it as the rules say.
     pub fn nothing() -> Shown
         ensures { result ≡ nothing }
     {

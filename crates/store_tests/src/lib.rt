@@ -9,12 +9,12 @@ mod tests {
     use std::test::Fail;
     use store::store::Store;
 
-    // The number of the fault.
+    // The number of the fault; a whole fault would compare its reason and not the number.
     fn number_of<T: Drop>(answer: Result<T, Fault>) -> Option<u8> {
         answer.err().map(|fault| fault.reason.number())
     }
 
-    // The parts of the fault but its layer.
+    // The parts of the fault but its layer, by number for the same reason.
     fn parts_of<T: Drop>(answer: Result<T, Fault>) -> Option<(u8, u32, u8, u16)> {
         answer.err().map(|fault| (
             fault.reason.number(),

@@ -12,7 +12,8 @@ use rules::entry::Entry;
 use rules::shown::Shown;
 use std::array;
 
-// Nine tables, the open contexts of the tasks, and the seal.
+// Nine tables, the open contexts of the tasks, and the seal. Two arrays and not one of pairs: the rules list tables and stacks
+// apart, and table 0 has no task. A place is changed by its index: of a `get_mut` the proof does not learn what the array ends as.
 #[derive(Drop)]
 pub struct Directory {
     tables: [Table; 9],
