@@ -26,15 +26,15 @@ impl Reason {
 }
 
 impl Layer {
-    // The letter of a layer, as its ASCII code.
-    pub fn letter(self) -> u8
+    // The letter of a layer.
+    pub fn letter(self) -> char
         ensures { result ≡ letter_of self }
     {
         match self {
-            Layer::Call => b'A',
-            Layer::Selector => b'B',
-            Layer::Descriptor => b'C',
-            Layer::Object => b'D',
+            Layer::Call => 'A',
+            Layer::Selector => 'B',
+            Layer::Descriptor => 'C',
+            Layer::Object => 'D',
         }
     }
 }

@@ -26,7 +26,7 @@ impl fmt::Display for Reason {
 impl fmt::Display for Fault {
     fn fmt<W: fmt::Write>(&self, f: &mut fmt::Formatter<W>) -> fmt::Result {
         let number = self.reason.number();
-        let layer = self.reason.layer().letter() as char;
+        let layer = self.reason.layer().letter();
         let Fault {
             task,
             place,

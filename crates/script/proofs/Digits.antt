@@ -23,9 +23,6 @@ pub record Read (l : List ℕ) (i n : ℕ) : Type 0 where
   pub value : n ≡ value_from 0 (take i l)
   pub small : n < 10 ^ i
 
-pub read_none : (l : List ℕ) → Read l 0 0
-read_none l = record { digits = refl; value = refl; small = lit< tt }
-
 pub read_more : (l : List ℕ) (i n : ℕ) → Read l i n → i < length l → is_digit (get_or l i 0) ≡ true → Read l (i + 1) (n * 10 + (get_or l i 0 - 48))
 read_more l i n r h d =
     let more = take_more l i 0 h in

@@ -16,7 +16,7 @@ impl fmt::Display for Reply {
             Reply::Number(n) => write!(f, "ok {n}"),
             Reply::Refused(fault) => {
                 let number = fault.reason.number();
-                let layer = char::from(fault.reason.layer().letter());
+                let layer = fault.reason.layer().letter();
                 let place = fault.place;
                 write!(f, "fault {number} {layer} {place}")
             }

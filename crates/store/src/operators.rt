@@ -1,4 +1,5 @@
-// The operators. Each makes all its tests before it changes anything.
+// The operators. Each makes all its tests before it changes anything, and reads like its definition, test for test, so that
+// read and write repeat three lines.
 ghost use Rattle.rules.specs.Effects.{done};
 ghost use Rattle.rules.specs.Operators.{call_plan, copy_plan, create_plan, look_plan, null_plan, read_plan, refine_plan, restrict_plan, return_plan, see_plan, typed_plan, write_plan};
 ghost use Rattle.store.specs.Answers.{listed, received, seen};
