@@ -68,19 +68,13 @@ pub(crate) fn is_overwritable(held: Option<Descriptor>) -> bool
 pub(crate) fn level_of(entry: &Option<Entry>) -> u8
     ensures { result ≡ level_by entry.now }
 {
-    match entry {
-        Some(e) => e.level(),
-        None => 0,
-    }
+    entry.as_ref().map_or(0, |e| e.level())
 }
 
 pub(crate) fn kind_of(entry: &Option<Entry>) -> Kind
     ensures { result ≡ kind_by entry.now }
 {
-    match entry {
-        Some(e) => e.kind(),
-        None => Kind::GENERIC,
-    }
+    entry.as_ref().map_or(Kind::GENERIC, |e| e.kind())
 }
 
 // Whether an entry has parts that a refinement can show.

@@ -61,9 +61,6 @@ impl<B: Bank> Store<B> {
     pub(crate) fn level_named(&self, named: &Option<Descriptor>) -> u8
         ensures { result ≡ level_named self.now named.now }
     {
-        match named {
-            Some(d) => self.level_of(d),
-            None => 0,
-        }
+        named.as_ref().map_or(0, |d| self.level_of(d))
     }
 }
