@@ -1,8 +1,13 @@
 // How reasons and faults are printed.
+ghost use Rattle.std.specs.Prelude.{Some};
+ghost use Rattle.rules.specs.Texts.{fault_text, reason_text};
+
 use crate::fault::{Fault, Reason};
 use std::fmt;
 
 impl fmt::Display for Reason {
+    ghost output = { λ reason. Some (reason_text reason) };
+
     fn fmt<W: fmt::Write>(&self, f: &mut fmt::Formatter<W>) -> fmt::Result {
         f.write_str(match self {
             Reason::SmallBank => "the bank is too small",
@@ -24,6 +29,8 @@ impl fmt::Display for Reason {
 }
 
 impl fmt::Display for Fault {
+    ghost output = { λ fault. Some (fault_text fault) };
+
     fn fmt<W: fmt::Write>(&self, f: &mut fmt::Formatter<W>) -> fmt::Result {
         let number = self.reason.number();
         let layer = self.reason.layer().letter();
