@@ -21,6 +21,10 @@ impl<const N: u16> Model for Below<N> {
     ghost inverse = { λ n. record { number = n } };
 }
 
+impl Below<64> {
+    pub(crate) const LAST: Below<64> = Below { number: 63 };
+}
+
 impl<const N: u16> Below<N> {
     pub fn new(number: u32) -> Option<Below<N>>
         ensures { result ≡ (if nat_lt number N then Some number else None) }

@@ -15,7 +15,7 @@ pub struct Storage {
 #[derive(Clone, Copy, Debug, PartialEq, Eq)]
 pub struct TypeControl {
     pub kind: Kind,
-    // Any number, as the rules have it: a load call tests that it is at most 63.
+    // A plain number: a narrower type would ask more of whoever adds an entry.
     pub rights: u8,
 }
 

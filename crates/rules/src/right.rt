@@ -1,16 +1,16 @@
-// The rights that a descriptor can give.
+// The rights that a descriptor can give, each with the number that stands for it.
 ghost use Rattle.std.specs.Prelude.{◌≡◌, ◌<◌};
 ghost use Rattle.rules.specs.Code.{weight};
 ghost use Rattle.rules.specs.State.{has};
 
 #[derive(Clone, Copy, Debug, PartialEq, Eq)]
 pub enum Right {
-    Read,
-    Write,
-    Type1,
-    Type2,
-    Type3,
-    Delete,
+    Read = 1,
+    Write = 2,
+    Type1 = 4,
+    Type2 = 8,
+    Type3 = 16,
+    Delete = 32,
 }
 
 impl Right {
@@ -19,14 +19,7 @@ impl Right {
         ensures value { result ≡ weight self }
         ensures positive { 0 < result }
     {
-        match self {
-            Right::Read => 1,
-            Right::Write => 2,
-            Right::Type1 => 4,
-            Right::Type2 => 8,
-            Right::Type3 => 16,
-            Right::Delete => 32,
-        }
+        self as u8
     }
 
     // Whether this right is among the rights that a number stands for.

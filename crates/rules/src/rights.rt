@@ -3,6 +3,7 @@ ghost use Rattle.std.specs.Prelude.{◌≡◌, ◌<◌, ◌%◌, if◌then◌els
 ghost use Rattle.rules.specs.Code.{weight};
 ghost use Rattle.rules.specs.State.{has};
 
+use crate::below::Below;
 use crate::right::Right;
 use std::marker::Model;
 use std::ops::BitAnd;
@@ -10,32 +11,30 @@ use std::ops::BitAnd;
 // The rights of a descriptor, as the sum of the numbers that stand for them.
 #[derive(Clone, Copy, Debug, PartialEq, Eq)]
 pub struct Rights {
-    sum: u8,
+    sum: Below<64>,
 }
 
 impl Model for Rights {
-    ghost use Rattle.std.specs.Prelude.{ℕ, ◌<◌};
+    ghost use Rattle.std.specs.Prelude.{ℕ};
 
     ghost Value = { ℕ };
 
     ghost view = { λ r. r.sum };
 
-    ghost invariant = { λ r. r.sum < 64 };
-
     ghost inverse = { λ n. record { sum = n } };
 }
 
 impl Rights {
-    pub const ALL: Rights = Rights { sum: 63 };
+    pub const ALL: Rights = Rights {
+        sum: Below::<64>::LAST,
+    };
 
     pub fn new(sum: u32) -> Option<Rights>
         ensures { result ≡ (if nat_le sum 63 then Some sum else None) }
     {
-        if sum <= 63 {
-            Some(Rights { sum: sum as u8 })
-        } else {
-            None
-        }
+        Some(Rights {
+            sum: Below::new(sum)?,
+        })
     }
 
     // The rights that the six lowest bits of a number stand for.
@@ -43,7 +42,7 @@ impl Rights {
         ensures { result ≡ number % 64 }
     {
         Rights {
-            sum: (number % 64) as u8,
+            sum: Below::low(number),
         }
     }
 
@@ -51,13 +50,13 @@ impl Rights {
         ensures value { result ≡ self }
         ensures below { result < 64 }
     {
-        self.sum
+        self.sum.get() as u8
     }
 
     pub fn contains(self, right: Right) -> bool
         ensures { result ≡ has (weight right) self }
     {
-        right.is_in(self.sum)
+        right.is_in(self.sum())
     }
 }
 
@@ -71,7 +70,7 @@ impl BitAnd for Rights {
 
     fn bitand(self, other: Rights) -> Rights {
         Rights {
-            sum: self.sum & other.sum,
+            sum: Below::low((self.sum.get() & other.sum.get()) as u32),
         }
     }
 }

@@ -3,7 +3,8 @@ use crate::below::Below;
 use crate::rights::Rights;
 
 // Of the storage object `object` of table `owner`, which has this base and level: `bytes` of its data bytes from `byte` on,
-// and `slots` of its slots from `slot` on. The two runs are four numbers, as in the rules.
+// and `slots` of its slots from `slot` on. The two runs are four numbers, since every
+// definition names them one by one.
 #[derive(Clone, Copy, Debug, PartialEq, Eq)]
 pub struct Shown {
     pub owner: u32,

@@ -20,7 +20,7 @@ impl From<Descriptor> for u32 {
     }
 }
 
-// The descriptor whose parts stand in a word.
+// The descriptor whose parts stand in a word, of every word: whether it is valid is asked apart.
 impl From<u32> for Descriptor {
     ghost use Rattle.std.specs.Prelude.{◌≡◌};
     ghost use Rattle.rules.specs.State.{decode};

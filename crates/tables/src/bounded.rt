@@ -4,8 +4,8 @@ ghost use Rattle.std.specs.List.{slice_get};
 
 use std::marker::Model;
 
-// A list of at most N items: the first `count` of an array. A store allocates nothing, so that a Vec is out, and the items
-// past the end are whatever was there, so that cutting the list costs nothing.
+// A list of at most N items: the first `count` of an array. A store allocates nothing, so that a Vec is out. The items past the
+// end are whatever was there, so that cutting the list costs nothing, where an ArrayVec writes blanks.
 #[derive(Drop)]
 pub struct BoundedList<T: Copy, const N: usize> {
     items: [T; N],
@@ -47,22 +47,14 @@ impl<T: Copy, const N: usize> BoundedList<T, N> {
         ensures value { result ≡ slice_get self.now index }
         ensures within { OnSome result (index < N) }
     {
-        if index < self.count {
-            Some(self.items[index])
-        } else {
-            None
-        }
+        self.items[..self.count].get(index).copied()
     }
 
     // The item that stands so many places before the last one.
     pub fn from_end(&self, places: usize) -> Option<T>
         ensures { result ≡ slice_get (reverse self.now) places }
     {
-        if places < self.count {
-            Some(self.items[self.count - 1 - places])
-        } else {
-            None
-        }
+        self.items[..self.count].iter().rev().nth(places).copied()
     }
 
     pub fn push(&mut self, item: T)

@@ -13,7 +13,8 @@ use rules::shown::Shown;
 use std::array;
 
 // Nine tables, the open contexts of the tasks, and the seal. Two arrays and not one of pairs: the rules list tables and stacks
-// apart, and table 0 has no task. A place is changed by its index: of a `get_mut` the proof does not learn what the array ends as.
+// apart. It has no model: clauses see it by `state_of`, beside any bank's list. A place is changed by its index, since nothing is
+// known of what an array ends as after a `get_mut`.
 #[derive(Drop)]
 pub struct Directory {
     tables: [Table; 9],
@@ -65,10 +66,9 @@ impl Directory {
     pub fn level(&self, task: u32) -> u32
         ensures { (l : List ℕ) → result ≡ level_of (state_of self.now l) task }
     {
-        match self.stacks.get(task as usize) {
-            Some(stack) => stack.level(),
-            None => 0,
-        }
+        self.stacks
+            .get(task as usize)
+            .map_or(0, |stack| stack.level())
     }
 
     // The current context of a task.
@@ -144,7 +144,7 @@ impl Directory {
         self.sealed // true once loading has ended
     }
 
-    #[tactic(auto, using(std::proofs::lemmas::Option::get_or_from_slice_get, crate::proofs::States::at_none), unfolding(rules::specs::Effects::sealing))]
+    #[tactic(auto, unfolding(rules::specs::Effects::sealing))]
     pub fn seal(&mut self)
         ensures { (l : List ℕ) → state_of self.new l ≡ sealing (state_of self.old l) }
     {

@@ -7,12 +7,13 @@ ghost use Rattle.rules.specs.Tests.{current as current_of};
 use crate::bounded::BoundedList;
 use std::marker::Model;
 
-const LEVELS: usize = 8;
+// How many levels a task has.
+pub const LEVELS: usize = 8;
 
 // The indices of the contexts in the task's table, from level 1 on. Clauses see the current one first.
 #[derive(Drop)]
 pub struct Stack {
-    contexts: BoundedList<u32, 8>,
+    contexts: BoundedList<u32, LEVELS>,
 }
 
 impl Model for Stack {
