@@ -2,7 +2,7 @@
 use bank::plain::PlainBank;
 use rules::fault::Fault;
 use std::io;
-use store::store::Store;
+use store::store::{SMALLEST_BANK, Store};
 
 // The bank is a plain one, since the bound of a closure cannot name a store over any bank.
 #[derive(Drop)]
@@ -21,7 +21,7 @@ pub(crate) fn run<F: FnOnce(&mut Replay) -> io::Result<()>>(
     requires { F.IsAlwaysCallable steps }
 {
     println!(rt; "{title}")?;
-    let mut memory = vec![in rt.alloc(); 0u8; 18432]?;
+    let mut memory = vec![in rt.alloc(); 0u8; SMALLEST_BANK as usize]?;
     let mut replay = Replay::new(rt, memory.as_mut_slice());
     steps(&mut replay)?;
     replay.print_faults()

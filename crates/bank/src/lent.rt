@@ -28,7 +28,7 @@ pub trait Unit: Copy {
         requires { length units.now ≡ length out.old }
         ensures { out.new ≡ bytes_of units.now }
     {
-        // By place: of a `zip` with `iter_mut` the proof does not learn what it leaves.
+        // By place, since nothing is known of what a `zip` with `iter_mut` leaves.
         for (i, unit) in units.iter().enumerate() {
             out[i] = unit.decode();
         }
@@ -90,7 +90,7 @@ impl<U: Unit> Bank for LentBank<'_, U> {
         ensures means { U.bytes_of (used self.new.memory.now) ≡ slice_set (U.bytes_of (used self.old.memory.now)) address byte }
         ensures memory { Rewrites self.old.memory self.new.memory (slice_set (used self.old.memory.now) address (U.unit_of byte)) }
     {
-        // An index, since of a `get_mut` in a part of the memory the proof does not learn where it lies.
+        // By place, since nothing is known of what a slice ends as after a `get_mut`.
         let at = address as usize;
         if at < units::count(self.memory.len()) {
             self.memory[at] = U::encode(byte);

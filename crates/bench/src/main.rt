@@ -1,18 +1,16 @@
 // bench BANK WORK COUNT: makes COUNT rounds of one kind of work on a store and prints a checksum of what they answered.
 #![tactic(auto)]
 
-use bank::coded::CodedBank;
-use bank::plain::PlainBank;
+use bank::lent::{LentBank, Unit};
 use rules::fault::Fault;
 use std::{env, io};
+use store::store::SMALLEST_BANK;
 
 mod names;
 mod rounds;
 
 use names::{BankKind, Work};
 use rounds::{Numbers, sum};
-
-const UNITS: usize = 18432;
 
 fn main(rt: HostRuntime) -> io::Result<()> {
     let mut args = env::args(&rt)?;
@@ -32,23 +30,19 @@ fn main(rt: HostRuntime) -> io::Result<()> {
         task: rest.saturating_sub(3),
         zero: rest.saturating_sub(4),
     };
-    // Two arms, since the units of their memory are of two types.
     match bank {
-        BankKind::Plain => {
-            let mut memory = vec![in rt.alloc(); 0u8; UNITS]?;
-            print(
-                &rt,
-                sum(PlainBank::new(memory.as_mut_slice()), work, count, numbers),
-            )
-        }
-        BankKind::Coded => {
-            let mut memory = vec![in rt.alloc(); 0u16; UNITS]?;
-            print(
-                &rt,
-                sum(CodedBank::new(memory.as_mut_slice()), work, count, numbers),
-            )
-        }
+        BankKind::Plain => run::<u8>(&rt, work, count, numbers),
+        BankKind::Coded => run::<u16>(&rt, work, count, numbers),
     }
+}
+
+// Makes the rounds over a bank of these units, all of which mean 0, and prints their checksum.
+fn run<U: Unit>(rt: &HostRuntime, work: Work, count: u32, numbers: Numbers) -> io::Result<()> {
+    let mut memory = vec![in rt.alloc(); U::encode(0); SMALLEST_BANK as usize]?;
+    print(
+        rt,
+        sum(LentBank::new(memory.as_mut_slice()), work, count, numbers),
+    )
 }
 
 fn usage(rt: &HostRuntime) -> io::Result<()> {

@@ -37,7 +37,7 @@ impl Cell for u16 {
 pub(crate) fn turn<U: Cell>(memory: &mut [U], at: usize, bit: u32)
     ensures { (d : U) → memory.new ≡ with_turned U.turned memory.old at bit d }
 {
-    // An index, since the proof does not learn what a write behind `get_mut` leaves of units of any type.
+    // By place, since nothing is known of what a slice ends as after a `get_mut`.
     if at < memory.len() {
         memory[at].turn(bit);
     }

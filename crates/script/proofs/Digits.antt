@@ -1,8 +1,7 @@
 -- Digits, one after the other.
 -- Assumes nothing.
-use Rattle.std.proofs.Common.{◌≡◌, ℕ, zero, suc, ◌+◌, ◌-◌, ◌*◌, ◌^◌, ◌<◌, ◌≤◌, true, false, ◌&&◌, leb, ◌⊎◌, List, [], ◌∷◌, ◌++◌, length, get_or, take, Some, None, Ok, Err, Result, sym, refl, inl, inr, arith, lit<, pow-add}
+use Rattle.std.proofs.Common.{◌≡◌, ℕ, zero, suc, ◌+◌, ◌-◌, ◌*◌, ◌^◌, ◌<◌, ◌≤◌, true, false, ◌&&◌, leb, ◌⊎◌, List, [], ◌∷◌, ◌++◌, length, get_or, take, Some, None, Ok, Err, Result, sym, refl, inl, inr, arith, pow-add}
 use Rattle.std.specs.Result.{OkIff, result_ok}
-use native.Mathlib.Nat.{pow-le-pow_right}
 use Rattle.std.proofs.lemmas.List.{take_more, take_all}
 use Rattle.std.proofs.lemmas.Bool.{and_parts, and_from, and_left, and_right, cond-false, leb-true, le-leb, lt-leb}
 use Rattle.script.specs.Text.{is_digit, are_digits, value_from, number_of}
@@ -32,9 +31,6 @@ read_more l i n r h d =
       value = rw (r.value, more) (sym (value_push 0 (take i l) (get_or l i 0)));
       small = omega (arith, pow-add 10 i 1, r.small);
     }
-
-pub few : (l : List ℕ) (i n : ℕ) → Read l i n → i ≤ 4 → n < 10000
-few l i n r h = omega (arith, pow-le-pow_right {n = 10} (lit< tt) {i = i} {j = 4} h, r.small)
 
 pub not_digits : (l : List ℕ) (i : ℕ) → i < length l → is_digit (get_or l i 0) ≡ false → are_digits l ≡ false
 not_digits [] i h e = absurd (omega arith)

@@ -31,7 +31,7 @@ impl From<Result<(), Fault>> for Reply {
     }
 }
 
-// Makes the call of a line. A match and no table of closures: each call takes other numbers and answers another type.
+// Makes the call of a line. A match on its word and no table of closures: each call takes other numbers.
 pub fn run<B: Bank>(store: &mut Store<B>, line: Line) -> Reply
     ensures { (result, store.new) ≡ run_of line store.old }
 {

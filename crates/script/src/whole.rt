@@ -9,14 +9,14 @@ use crate::print::reply_text;
 use crate::reply::Reply;
 use bank::plain::PlainBank;
 use std::alloc::{AllocError, Global};
-use store::store::Store;
+use store::store::{SMALLEST_BANK, Store};
 
 const HEADER: &[u8] = b"do task a b c d e f";
 
 // The most bytes that a script may have.
 pub const LONGEST: usize = 16384;
 
-const BANK_BYTES: usize = 18432;
+const BANK_BYTES: usize = SMALLEST_BANK as usize;
 
 fn bad(heap: Global) -> Result<Vec<u8>, AllocError>
     ensures { IfOk result (λ v. v.items ≡ text_of Bad) }

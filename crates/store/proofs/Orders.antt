@@ -1,7 +1,7 @@
 -- The order of tables and stacks that the operators rely on, and how it lasts.
 -- Assumes nothing.
-use Rattle.std.proofs.Common.{◌≡◌, ◌≢◌, ◌⊎◌, ℕ, zero, suc, ◌+◌, ◌-◌, ◌*◌, ◌<◌, ◌≤◌, Bool, true, false, cond, ◌&&◌, ltb, leb, List, [], ◌∷◌, ◌++◌, length, get_or, take, replicate, Some, None, Option, sym, refl, ◌∙◌, subst, inl, inr, arith, length-append}
-use Rattle.std.proofs.lemmas.Bool.{and_parts, cases_lt, lt-ltb, ltb-true, le-leb, leb-true}
+use Rattle.std.proofs.Common.{◌≡◌, ◌≢◌, ℕ, zero, suc, ◌+◌, ◌-◌, ◌*◌, ◌<◌, ◌≤◌, Bool, true, false, cond, ◌&&◌, ltb, leb, List, [], ◌∷◌, ◌++◌, length, get_or, take, replicate, Some, None, Option, sym, refl, ◌∙◌, subst, inl, inr, arith, length-append}
+use Rattle.std.proofs.lemmas.Bool.{and_parts, cases_eq, lt-ltb, ltb-true, le-leb, leb-true}
 use Rattle.std.proofs.lemmas.List.{get_or-set_other, get_or-set_same, length-take-le}
 use Rattle.std.specs.List.{slice_get}
 use Rattle.rules.specs.declared.entry.Entry.{Entry}
@@ -84,24 +84,17 @@ contexts_closed es n c cs le h =
     contexts_last es (take c es) c (length (take c es)) cs (omega (arith, size)) (slice_get_take c es) more.1
 
 -- a state of which one table and its task's stack have changed
-same_or_other : (u t : ℕ) → (u ≡ t) ⊎ (u ≢ t)
-same_or_other u t =
-    elim (cases_lt u t) [
-      | inl less ↦ inr (λ e. omega arith)
-      | inr more ↦ elim (cases_lt t u) [ inl less ↦ inr (λ e. omega arith) | inr equal ↦ inl (omega arith) ]
-    ]
-
 pub orderly_but : (s s' : State) (t : ℕ) → IsOrderly s → ((u : ℕ) → u ≢ t → table s' u ≡ table s u) → ((u : ℕ) → u ≢ t → stack s' u ≡ stack s u) →
     all_fit t (table s' t).entries ≡ true → are_contexts (table s' t).entries (length (table s' t).entries) (stack s' t) ≡ true → IsOrderly s'
 orderly_but s s' t o tables stacks fit opened =
     record {
       entries = λ u.
-          elim (same_or_other u t) [
+          elim (cases_eq u t) [
             | inl e ↦ subst (λ (v : ℕ). all_fit v (table s' v).entries ≡ true) (sym e) fit
             | inr ne ↦ subst (λ (x : Table). all_fit u x.entries ≡ true) (sym (tables u ne)) (o.entries u)
           ];
       contexts = λ u.
-          elim (same_or_other u t) [
+          elim (cases_eq u t) [
             | inl e ↦ subst (λ (v : ℕ). are_contexts (table s' v).entries (length (table s' v).entries) (stack s' v) ≡ true) (sym e) opened
             | inr ne ↦ rw (tables u ne, stacks u ne) (o.contexts u)
           ];

@@ -28,7 +28,8 @@ pub(crate) fn demand(holds: bool, reason: Reason, task: u32) -> Result<(), Fault
     }
 }
 
-// A task, with its current context.
+// A task, with its current context. Its fields are plain numbers, and those of an operand too, since the check covers a struct
+// that is handed on by value twice only where it is flat.
 #[derive(Clone, Copy)]
 pub(crate) struct Caller {
     pub(crate) task: u32,
@@ -80,6 +81,17 @@ impl Caller {
 }
 
 impl Operand {
+    // A test, or the fault of its failing at this operand.
+    pub(crate) fn demand(self, holds: bool, reason: Reason) -> Result<(), Fault>
+        ensures { result ≡ check holds (refusal_at reason self.task self.place self.selector) }
+    {
+        if holds {
+            Ok(())
+        } else {
+            Err(self.refusal(reason))
+        }
+    }
+
     // A fault of this operand.
     pub(crate) fn refusal(self, reason: Reason) -> Fault
         ensures { result ≡ refusal_at reason self.task self.place self.selector }

@@ -1,4 +1,5 @@
-// The descriptor layer: what the slots of operands hold.
+// The descriptor layer: what the slots of operands hold. What an operand names is unpacked by `let .. else`, or the call leaves with
+// the fault of its place.
 ghost use Rattle.rules.specs.Code.{weight};
 ghost use Rattle.rules.specs.Tests.{control, destination, source, source_or_null, source_with};
 ghost use Rattle.std.specs.Prelude.{◌≡◌};
@@ -38,9 +39,7 @@ impl<B: Bank> Store<B> {
         ensures { result ≡ source_with (weight right) self.now operand.task operand.context operand.place operand.selector }
     {
         let descriptor = self.source(operand)?;
-        if !descriptor.rights.contains(right) {
-            return Err(operand.refusal(Reason::MissingRight));
-        }
+        operand.demand(descriptor.rights.contains(right), Reason::MissingRight)?;
         Ok(descriptor)
     }
 
@@ -62,9 +61,10 @@ impl<B: Bank> Store<B> {
         ensures { result ≡ destination self.now operand.task operand.context operand.place operand.selector }
     {
         let place = self.resolve(Right::Write, operand)?;
-        if !ranges::is_overwritable(self.held(place)) {
-            return Err(operand.refusal(Reason::NotDeletable));
-        }
+        operand.demand(
+            ranges::is_overwritable(self.held(place)),
+            Reason::NotDeletable,
+        )?;
         Ok(place)
     }
 }

@@ -70,12 +70,7 @@ impl<B: Bank> Store<B> {
         ensures { (result, self.new) ≡ done self.old (task_plan number slots self.old) }
     {
         self.check_loading(number)?;
-        demand(
-            ranges::is_free_task(number, self.level(number)),
-            Reason::NoTask,
-            number,
-        )?;
-        let Some(task) = Below::new(number) else {
+        let Some(task) = ranges::free_task(number, self.level(number)) else {
             return Err(refusal_of(Reason::NoTask, number));
         };
         let Some(slots) = ContextSlots::new(slots) else {

@@ -1,5 +1,5 @@
 // The operators. Each makes all its tests before it changes anything, and reads like its definition, test for test, so that
-// read and write repeat three lines.
+// read and write repeat four statements. see and look answer tuples of plain numbers, as their callers have always been told.
 ghost use Rattle.rules.specs.Effects.{done};
 ghost use Rattle.rules.specs.Operators.{call_plan, copy_plan, create_plan, look_plan, null_plan, read_plan, refine_plan, restrict_plan, return_plan, see_plan, typed_plan, write_plan};
 ghost use Rattle.store.specs.Answers.{listed, received, seen};
@@ -15,8 +15,7 @@ use rules::kind::Kind;
 use rules::right::Right;
 use rules::rights::Rights;
 use rules::shown::{Descriptor, Place};
-
-const LEVELS: u32 = 8;
+use tables::stack::LEVELS;
 
 impl<B: Bank> Store<B> {
     // Stores the source's descriptor in the destination.
@@ -181,9 +180,10 @@ impl<B: Bank> Store<B> {
         let caller = self.caller(task)?;
         let operand = caller.operand(1, source);
         let descriptor = self.source(operand)?;
-        if !ranges::has_parts(self.entry_of(&descriptor)) {
-            return Err(operand.refusal(Reason::WrongType));
-        }
+        operand.demand(
+            ranges::has_parts(self.entry_of(&descriptor)),
+            Reason::WrongType,
+        )?;
         let place = self.destination(caller.operand(2, destination))?;
         let runs = Runs {
             byte,
@@ -201,7 +201,7 @@ impl<B: Bank> Store<B> {
     {
         let caller = self.caller(task)?;
         let level = self.level(task);
-        caller.demand(level < LEVELS, Reason::NoLevel)?;
+        caller.demand(level < LEVELS as u32, Reason::NoLevel)?;
         let passed = self.source_or_null(caller.operand(1, argument))?;
         let Some(slots) = ContextSlots::new(slots) else {
             return Err(caller.refusal(Reason::OutOfRange));
@@ -228,9 +228,10 @@ impl<B: Bank> Store<B> {
             at: 0,
         };
         let target = caller.operand(2, 0);
-        if !ranges::is_overwritable(self.held(place)) {
-            return Err(target.refusal(Reason::NotDeletable));
-        }
+        target.demand(
+            ranges::is_overwritable(self.held(place)),
+            Reason::NotDeletable,
+        )?;
         caller.demand(
             self.level_named(&passed) <= place.by.level,
             Reason::StoringRule,

@@ -4,6 +4,7 @@ ghost use Rattle.rules.specs.Loading.{exists, holds, nameable, user_kind};
 ghost use Rattle.rules.specs.Operators.{has_parts};
 ghost use Rattle.rules.specs.Tests.{fits, kind_by, level_by, overwritable};
 
+use rules::below::Below;
 use rules::entry::Entry;
 use rules::kind::Kind;
 use rules::right::Right;
@@ -16,7 +17,7 @@ pub(crate) fn user_kind(number: u32) -> Option<Kind>
     u8::try_from(number)
         .ok()
         .filter(|n| *n >= 16)
-        .map(|n| Kind::from(n))
+        .map(Kind::from)
 }
 
 // A type that an object is placed with.
@@ -30,11 +31,14 @@ pub(crate) fn placed_kind(number: u32) -> Option<Kind>
     }
 }
 
-// Whether a task of this number and level may be loaded.
-pub(crate) fn is_free_task(number: u32, level: u32) -> bool
-    ensures { result ≡ (nat_le 1 number && nat_le number 8 && level == 0) }
+// A task of this number and level, if it may be loaded.
+pub(crate) fn free_task(number: u32, level: u32) -> Option<Below<9>>
+    ensures { result ≡ (if nat_le 1 number && nat_le number 8 && level == 0 then Some number else None) }
 {
-    1 <= number && number <= 8 && level == 0
+    if number == 0 || level > 0 {
+        return None;
+    }
+    Below::new(number)
 }
 
 // Whether a run lies within what is there.

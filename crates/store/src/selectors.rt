@@ -39,9 +39,7 @@ impl<B: Bank> Store<B> {
         let Some(descriptor) = self.named(self.word_at(current.slot_at(slot))) else {
             return Err(operand.refusal(Reason::NullEnvironment));
         };
-        if !descriptor.rights.contains(right) {
-            return Err(operand.refusal(Reason::EnvironmentRight));
-        }
+        operand.demand(descriptor.rights.contains(right), Reason::EnvironmentRight)?;
         Ok(self.shown_of(&descriptor))
     }
 
@@ -52,9 +50,7 @@ impl<B: Bank> Store<B> {
     {
         let by = self.environment(right, operand)?;
         let at = operand.selector / 4;
-        if at >= by.slots {
-            return Err(operand.refusal(Reason::NoSlot));
-        }
+        operand.demand(at < by.slots, Reason::NoSlot)?;
         Ok(Place { by, at })
     }
 }

@@ -12,7 +12,8 @@ use rules::shown::{Place, Shown};
 use std::marker::Model;
 use tables::directory::Directory;
 
-const SMALLEST_BANK: u32 = 18432;
+// How many bytes a bank must have for a store to take calls.
+pub const SMALLEST_BANK: u32 = 18432;
 
 #[derive(Drop)]
 pub struct Store<B: Bank> {

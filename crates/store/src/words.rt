@@ -15,7 +15,7 @@ use rules::words::is_valid;
 pub(crate) fn word_or_null(named: Option<Descriptor>) -> u32
     ensures { result ≡ word_of named }
 {
-    named.map_or(0, |d| u32::from(d))
+    named.map_or(0, u32::from)
 }
 
 impl<B: Bank> Store<B> {
