@@ -18,7 +18,8 @@ pub(crate) fn used<T>(lent: &[T]) -> &[T]
     &lent[..count(lent.len())]
 }
 
-// Where a run begins inside a bank, at its address or at the end, and how many of its bytes lie inside.
+// Where a run begins inside a bank, at its address or at the end, and how many of its bytes lie inside. A pair and no `Range`, of
+// which only the length is wanted where the bytes outside are cut off.
 pub(crate) fn clip(size: usize, address: u32, wanted: usize) -> (usize, usize)
     ensures from { result.0 ≡ min address size }
     ensures inside { result.1 ≡ min wanted (size - min address size) }

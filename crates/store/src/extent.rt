@@ -40,7 +40,7 @@ impl Extent {
     }
 }
 
-// How many slots a context has.
+// How many slots a context has. No `Below`, since it has a least number too.
 #[derive(Clone, Copy)]
 pub(crate) struct ContextSlots {
     number: u16,

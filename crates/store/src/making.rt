@@ -6,7 +6,7 @@ ghost use Rattle.rules.specs.State.{encode, level as level_of, stack as stack_at
 ghost use Rattle.rules.specs.Tests.{current as current_of, has_room, refusal};
 ghost use Rattle.rules.specs.declared.fault.Reason.TheVariants.{NoRoom};
 ghost use Rattle.store.specs.Orderly.{fits_table};
-ghost use Rattle.store.specs.Steps.{refining};
+ghost use Rattle.store.specs.Steps.{if_room, refining};
 
 use crate::caller::{Caller, refusal_of};
 use crate::extent::{ContextSlots, Extent, Runs};
@@ -29,8 +29,8 @@ impl<B: Bank> Store<B> {
         level: u8,
         task: u32,
     ) -> Result<Below<64>, Fault>
-        ensures value { result ≡ (if has_room (table_at self.old table) (4 * extent.slots + extent.bytes) then Ok (next_index self.old table) else Err (refusal NoRoom task)) }
-        ensures after { self.new ≡ (if has_room (table_at self.old table) (4 * extent.slots + extent.bytes) then add table (new_object self.old table extent.bytes extent.slots kind level) self.old else self.old) }
+        ensures value { result ≡ if_room self.old table (4 * extent.slots + extent.bytes) (Ok (next_index self.old table)) (Err (refusal NoRoom task)) }
+        ensures after { self.new ≡ if_room self.old table (4 * extent.slots + extent.bytes) (add table (new_object self.old table extent.bytes extent.slots kind level) self.old) self.old }
     {
         let number = table.get() as u32;
         let Some(start) = self.directory.start(number) else {
@@ -54,8 +54,8 @@ impl<B: Bank> Store<B> {
     pub(crate) fn add(&mut self, table: Below<9>, entry: Entry) -> Option<Below<64>>
         requires empty { takes entry ≡ 0 }
         requires fits { fits_table table entry ≡ true }
-        ensures value { result ≡ (if has_room (table_at self.old table) 0 then Some (next_index self.old table) else None) }
-        ensures after { self.new ≡ (if has_room (table_at self.old table) 0 then add table entry self.old else self.old) }
+        ensures value { result ≡ if_room self.old table 0 (Some (next_index self.old table)) None }
+        ensures after { self.new ≡ if_room self.old table 0 (add table entry self.old) self.old }
     {
         self.directory.add(table.get() as u32, entry)
     }
@@ -63,8 +63,8 @@ impl<B: Bank> Store<B> {
     // Makes a context of a task at the next level, opens it and answers its index.
     pub(crate) fn open(&mut self, task: Below<9>, slots: ContextSlots) -> Result<Below<64>, Fault>
         requires { level_of self.old task < 8 }
-        ensures value { result ≡ (if has_room (table_at self.old task) (4 * slots) then Ok (next_index self.old task) else Err (refusal NoRoom task)) }
-        ensures after { self.new ≡ (if has_room (table_at self.old task) (4 * slots) then enter task slots self.old else self.old) }
+        ensures value { result ≡ if_room self.old task (4 * slots) (Ok (next_index self.old task)) (Err (refusal NoRoom task)) }
+        ensures after { self.new ≡ if_room self.old task (4 * slots) (enter task slots self.old) self.old }
     {
         let number = task.get() as u32;
         let level = self.directory.level(number) as u8 + 1;
@@ -81,8 +81,8 @@ impl<B: Bank> Store<B> {
         word: u32,
     ) -> Result<(), Fault>
         requires { level_of self.old task < 8 }
-        ensures value { result ≡ (if has_room (table_at self.old task) (4 * slots) then Ok tt else Err (refusal NoRoom task)) }
-        ensures after { self.new ≡ (if has_room (table_at self.old task) (4 * slots) then overwrite (first_slot self.old task slots) (word_bytes word) (enter task slots self.old) else self.old) }
+        ensures value { result ≡ if_room self.old task (4 * slots) (Ok tt) (Err (refusal NoRoom task)) }
+        ensures after { self.new ≡ if_room self.old task (4 * slots) (overwrite (first_slot self.old task slots) (word_bytes word) (enter task slots self.old)) self.old }
     {
         let Some(start) = self.directory.start(task.get() as u32) else {
             return Err(refusal_of(Reason::NoRoom, task.get() as u32));
