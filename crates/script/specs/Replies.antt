@@ -6,7 +6,7 @@ use Rattle.rules.specs.Faults.{number_of, layer_of, letter_of}
 use Rattle.rules.specs.State.{State, empty}
 use Rattle.script.specs.declared.line.Line.{Line}
 use Rattle.script.specs.declared.reply.Reply.{Reply}
-use Rattle.script.specs.declared.reply.Reply.TheVariants.{Bad, Done, Number, Refused}
+use Rattle.script.specs.declared.reply.Reply.TheVariants.{Bad, Done, Number, Absent, Seen, Looked, Refused}
 use Rattle.script.specs.Calls.{run_of}
 use Rattle.script.specs.Lines.{line_of}
 use Rattle.script.specs.Text.{before, behind}
@@ -19,6 +19,9 @@ abbrev pub shown : Reply → List ℕ
 shown Bad = codes "bad"
 shown Done = codes "ok"
 shown (Number n) = codes "ok " ++ decimal n
+shown Absent = codes "ok absent"
+shown (Seen t i r) = codes "ok " ++ (decimal t ++ (32 ∷ [] ++ (decimal i ++ (32 ∷ [] ++ decimal r))))
+shown (Looked t n k v) = codes "ok " ++ (decimal t ++ (32 ∷ [] ++ (decimal n ++ (32 ∷ [] ++ (decimal k ++ (32 ∷ [] ++ decimal v))))))
 shown (Refused f) = codes "fault " ++ (decimal (number_of f.reason) ++ (32 ∷ [] ++ (letter_text (layer_of f.reason) ++ (32 ∷ [] ++ decimal f.place))))
 
 -- every printed line ends with byte 10

@@ -14,6 +14,18 @@ impl fmt::Display for Reply {
             Reply::Bad => f.write_str("bad"),
             Reply::Done => f.write_str("ok"),
             Reply::Number(n) => write!(f, "ok {n}"),
+            Reply::Absent => f.write_str("ok absent"),
+            Reply::Seen {
+                table,
+                index,
+                rights,
+            } => write!(f, "ok {table} {index} {rights}"),
+            Reply::Looked {
+                kind,
+                bytes,
+                slots,
+                level,
+            } => write!(f, "ok {kind} {bytes} {slots} {level}"),
             Reply::Refused(fault) => {
                 let number = fault.reason.number();
                 let layer = fault.reason.layer().letter();

@@ -9,6 +9,18 @@ pub enum Word {
     Grant,
     Fill,
     Seal,
+    Copy,
+    Null,
+    Restrict,
+    Create,
+    Typed,
+    Refine,
+    Read,
+    Write,
+    See,
+    Look,
+    Call,
+    Return,
 }
 
 // A field that is no call's word.

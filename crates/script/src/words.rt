@@ -25,6 +25,30 @@ impl TryFrom<&[u8]> for Word {
             Ok(Word::Fill)
         } else if text == b"seal".as_slice() {
             Ok(Word::Seal)
+        } else if text == b"copy".as_slice() {
+            Ok(Word::Copy)
+        } else if text == b"null".as_slice() {
+            Ok(Word::Null)
+        } else if text == b"restrict".as_slice() {
+            Ok(Word::Restrict)
+        } else if text == b"create".as_slice() {
+            Ok(Word::Create)
+        } else if text == b"typed".as_slice() {
+            Ok(Word::Typed)
+        } else if text == b"refine".as_slice() {
+            Ok(Word::Refine)
+        } else if text == b"read".as_slice() {
+            Ok(Word::Read)
+        } else if text == b"write".as_slice() {
+            Ok(Word::Write)
+        } else if text == b"see".as_slice() {
+            Ok(Word::See)
+        } else if text == b"look".as_slice() {
+            Ok(Word::Look)
+        } else if text == b"call".as_slice() {
+            Ok(Word::Call)
+        } else if text == b"return".as_slice() {
+            Ok(Word::Return)
         } else {
             Err(UnknownWord)
         }
