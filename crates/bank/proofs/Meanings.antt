@@ -1,8 +1,9 @@
 -- Units that mean bytes: what is written as the units of bytes reads as those bytes.
 -- Assumes nothing.
-use Rattle.std.proofs.Common.{◌≡◌, ℕ, zero, suc, ◌<◌, List, [], ◌∷◌, map, length, get_or, take, drop, set, replicate, sym, refl, ap, ◌∙◌, lit<}
+use Rattle.std.proofs.Common.{◌≡◌, ℕ, zero, suc, ◌<◌, List, [], ◌∷◌, map, length, get_or, take, drop, set, replicate, sym, refl, ap, ◌∙◌, lit<, arith}
 use Rattle.std.proofs.lemmas.List.{length-map, map-set, take-map, drop-map}
 use Rattle.bank.specs.Runs.{write_run}
+use Rattle.bank.specs.Words.{word_bytes}
 
 module _ (X : Type 0) (byte_of : X → ℕ) (unit_of : ℕ → X) (back : (b : ℕ) → b < 256 → byte_of (unit_of b) ≡ b) where
   set_each : (l : List X) (a b : ℕ) → b < 256 → map byte_of (set l a (unit_of b)) ≡ set (map byte_of l) a b
@@ -37,3 +38,12 @@ zero_bytes (suc n) (suc i) = zero_bytes n i
 pub map-zeros : {X : Type 0} (f : ℕ → X) (n : ℕ) → map f (replicate n 0) ≡ replicate n (f 0)
 map-zeros f zero = refl
 map-zeros f (suc n) = ap (λ us. f 0 ∷ us) (map-zeros f n)
+
+-- and so are the bytes of a word
+pub word_bytes-small : (w i : ℕ) → get_or (word_bytes w) i 0 < 256
+unfolding word_bytes
+word_bytes-small w zero = omega arith
+word_bytes-small w (suc zero) = omega arith
+word_bytes-small w (suc (suc zero)) = omega arith
+word_bytes-small w (suc (suc (suc zero))) = omega arith
+word_bytes-small w (suc (suc (suc (suc i)))) = lit< tt

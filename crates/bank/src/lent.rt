@@ -1,6 +1,7 @@
 // A bank over lent memory: one byte in each of its first 65,536 units.
-ghost use Rattle.bank.specs.Runs.{write_run};
+ghost use Rattle.bank.specs.Runs.{read_run, write_run};
 ghost use Rattle.bank.specs.Units.{Rewrites, used};
+ghost use Rattle.bank.specs.Words.{word_bytes};
 ghost use Rattle.std.specs.Prelude.{◌≡◌, ℕ, ◌<◌, List, length, map, replicate, slice_set};
 
 use crate::{Bank, units};
@@ -71,6 +72,22 @@ impl<'a, U: Unit> LentBank<'a, U> {
     {
         LentBank { memory }
     }
+
+    // The four bytes from an address on.
+    fn four(&self, address: u32) -> [u8; 4]
+        ensures { result ≡ read_run (U.bytes_of (used self.now.memory.now)) address 4 }
+    {
+        let units = units::used(self.memory);
+        let at = address as usize;
+        if at + 4 <= units.len() {
+            let mut four = [0u8; 4];
+            U::decode_run(&units[at..at + 4], &mut four);
+            return four;
+        }
+        let mut four = [0u8; 4];
+        self.read_run(address, &mut four);
+        four
+    }
 }
 
 impl<U: Unit> Bank for LentBank<'_, U> {
@@ -119,5 +136,24 @@ impl<U: Unit> Bank for LentBank<'_, U> {
     {
         let (from, inside) = units::clip(units::count(self.memory.len()), address, count as usize);
         self.memory[from..from + inside].fill(U::encode(0));
+    }
+
+    #[tactic(auto, unfolding(crate::specs::Words::word_at, crate::specs::Runs::read_run))]
+    fn read_word(&self, address: u32) -> u32 {
+        u32::from_le_bytes(self.four(address))
+    }
+
+    #[tactic(auto, unfolding(crate::specs::Words::word_bytes))]
+    fn write_word(&mut self, address: u32, word: u32)
+        ensures means { U.bytes_of (used self.new.memory.now) ≡ write_run (U.bytes_of (used self.old.memory.now)) address (word_bytes word) }
+        ensures memory { Rewrites self.old.memory self.new.memory (write_run (used self.old.memory.now) address (U.units_of (word_bytes word))) }
+    {
+        let at = address as usize;
+        let four = word.to_le_bytes();
+        if at + 4 <= units::count(self.memory.len()) {
+            U::encode_run(&mut self.memory[at..at + 4], &four);
+        } else {
+            self.write_run(address, &four);
+        }
     }
 }

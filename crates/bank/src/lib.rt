@@ -3,6 +3,7 @@
 
 ghost use Rattle.std.specs.Prelude.{◌≡◌, ℕ, List, length, replicate, slice_index, slice_set};
 ghost use Rattle.bank.specs.Runs.{read_run, write_run};
+ghost use Rattle.bank.specs.Words.{word_at, word_bytes};
 
 pub mod coded;
 pub mod lent;
@@ -53,5 +54,23 @@ pub trait Bank {
         for at in address..self.size().min(address.saturating_add(count)) {
             self.write(at, 0);
         }
+    }
+
+    // The word of the four bytes from an address on.
+    #[tactic(auto, unfolding(crate::specs::Words::word_at, crate::specs::Runs::read_run))]
+    fn read_word(&self, address: u32) -> u32
+        ensures { result ≡ word_at (bytes self.now) address }
+    {
+        let mut four = [0u8; 4];
+        self.read_run(address, &mut four);
+        u32::from_le_bytes(four)
+    }
+
+    // Replaces the four bytes from an address on, as far as they lie inside the bank.
+    #[tactic(auto, unfolding(crate::specs::Words::word_bytes))]
+    fn write_word(&mut self, address: u32, word: u32)
+        ensures { bytes self.new ≡ write_run (bytes self.old) address (word_bytes word) }
+    {
+        self.write_run(address, &word.to_le_bytes());
     }
 }

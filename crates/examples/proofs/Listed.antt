@@ -7,7 +7,8 @@ use Rattle.rules.specs.declared.fault.Fault.{Fault}
 use Rattle.rules.specs.declared.fault.Reason.{Reason}
 use Rattle.rules.specs.declared.fault.Reason.TheVariants.{OutOfRange}
 use Rattle.rules.specs.Faults.{number_of, layer_of, letter_of}
-use Rattle.rules.specs.State.{State, word_at, word_bytes, encode}
+use Rattle.bank.specs.Words.{word_at, word_bytes}
+use Rattle.rules.specs.State.{State, encode}
 use Rattle.rules.specs.Tests.{refusal_at}
 use Rattle.rules.specs.Loading.{task_plan, place_plan, grant_plan, seal_plan}
 use Rattle.rules.specs.Operators.{write_plan, read_plan, call_plan, return_plan, create_plan}

@@ -6,7 +6,8 @@ use Rattle.bank.specs.Runs.{read_run, write_run}
 use Rattle.rules.specs.declared.entry.Entry.{Entry}
 use Rattle.rules.specs.declared.entry.Entry.TheVariants.{Object}
 use Rattle.rules.specs.declared.fault.Reason.TheVariants.{NullEnvironment, NotDeletable, OutOfRange, NoRoom}
-use Rattle.rules.specs.State.{State, no_table, empty, table, stack, level, entry, word_at, word_bytes, encode, decode, valid, named, has, shown, held, read, write, delete}
+use Rattle.bank.specs.Words.{word_at, word_bytes}
+use Rattle.rules.specs.State.{State, no_table, empty, table, stack, level, entry, encode, decode, valid, named, has, shown, held, read, write, delete}
 use Rattle.rules.specs.Tests.{refusal, refusal_at, loading, operator, environment, resolve, source_or_null, source, source_with, destination, has_room}
 use Rattle.rules.specs.Effects.{overwrite, put, with_table, with_stack, grown, add, new_object, enter, leave, sealing}
 use Rattle.rules.specs.Loading.{adding, making, place_plan, starting, task_plan, grant_plan, seal_plan}

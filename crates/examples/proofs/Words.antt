@@ -3,7 +3,7 @@
 use Rattle.std.proofs.Common.{◌≡◌, ℕ, ◌+◌, ◌<◌, ◌≤◌, List, length, get_or, ap, ◌∙◌, add-zero, arith}
 use Rattle.bank.specs.Runs.{write_run}
 use Rattle.bank.proofs.RunLaws.{get_or-write_run_inside, get_or-write_run_before}
-use Rattle.rules.specs.State.{word_at}
+use Rattle.bank.specs.Words.{word_at}
 
 -- four bytes that are the same make the same word
 same_word : (l m : List ℕ) (a c : ℕ) → ((k : ℕ) → k < 4 → get_or l (a + k) 0 ≡ get_or m (c + k) 0) → word_at l a ≡ word_at m c

@@ -8,7 +8,8 @@ use Rattle.bank.proofs.RunLaws.{get_or-write_run_inside}
 use Rattle.rules.specs.declared.fault.Fault.{Fault}
 use Rattle.rules.specs.declared.fault.Reason.TheVariants.{WrongType}
 use Rattle.rules.specs.declared.shown.Place.{Place}
-use Rattle.rules.specs.State.{State, entry, shown, slot_at, held, word_at, word_bytes, encode}
+use Rattle.bank.specs.Words.{word_at, word_bytes}
+use Rattle.rules.specs.State.{State, entry, shown, slot_at, held, encode}
 use Rattle.rules.specs.Tests.{◌≫=◌, check, in_range, loading, refusal}
 use Rattle.rules.specs.Effects.{Planned, apply, done, put, put_word, overwrite}
 use Rattle.rules.specs.Loading.{exists, grant_plan, holds, nameable}

@@ -5,7 +5,8 @@ use Rattle.rules.specs.declared.entry.Entry.{Entry}
 use Rattle.rules.specs.declared.entry.Entry.TheVariants.{Object}
 use Rattle.rules.specs.declared.fault.Fault.{Fault}
 use Rattle.rules.specs.declared.shown.Place.{Place}
-use Rattle.rules.specs.State.{State, Table, table, stack, level, shown, slot_at, block_start, takes, word_bytes, encode}
+use Rattle.bank.specs.Words.{word_bytes}
+use Rattle.rules.specs.State.{State, Table, table, stack, level, shown, slot_at, block_start, takes, encode}
 
 -- the bytes from an address on replaced
 unfoldable pub overwrite : ℕ → List ℕ → State → State

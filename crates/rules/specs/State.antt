@@ -1,6 +1,7 @@
 -- The state of a store, the words in its slots and what they name. Assumes nothing.
 use Rattle.std.specs.Prelude.{ℕ, ◌+◌, ◌-◌, ◌*◌, ◌/◌, ◌%◌, Bool, true, false, cond, ◌&&◌, List, [], ◌∷◌, length, replicate, Some, None, Option, ◌==◌, slice_index, slice_index_or}
 use Rattle.std.specs.List.{slice_get}
+use Rattle.bank.specs.Words.{word_at}
 use Rattle.rules.specs.declared.entry.Entry.{Entry}
 use Rattle.rules.specs.declared.entry.Entry.TheVariants.{Object, Control, Refined}
 use Rattle.rules.specs.declared.entry.Storage.{Storage}
@@ -62,13 +63,6 @@ abbrev pub takes : Entry → ℕ
 takes (Object o) = 4 * o.slots + o.bytes
 takes (Control c) = 0
 takes (Refined r) = 0
-
--- a word of four bytes, the low byte at the lowest address
-unfoldable pub word_at : List ℕ → ℕ → ℕ
-word_at l a = slice_index l a + slice_index l (a + 1) * 256 + slice_index l (a + 2) * 65536 + slice_index l (a + 3) * 16777216
-
-unfoldable pub word_bytes : ℕ → List ℕ
-word_bytes w = w % 256 ∷ w / 256 % 256 ∷ w / 65536 % 256 ∷ w / 16777216 % 256 ∷ []
 
 -- bits 0 to 11 the index, 12 to 23 the table, 24 valid, 25 to 30 the rights
 unfoldable pub decode : ℕ → Descriptor

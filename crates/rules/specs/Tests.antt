@@ -9,7 +9,8 @@ use Rattle.rules.specs.declared.fault.Reason.TheVariants.{SmallBank, WrongPhase,
 use Rattle.rules.specs.declared.shown.Descriptor.{Descriptor}
 use Rattle.rules.specs.declared.shown.Shown.{Shown}
 use Rattle.rules.specs.declared.shown.Place.{Place}
-use Rattle.rules.specs.State.{State, Table, table, stack, entry, named, shown, slot_at, held, word_at, has, kind_of, level_of, read, write, delete}
+use Rattle.bank.specs.Words.{word_at}
+use Rattle.rules.specs.State.{State, Table, table, stack, entry, named, shown, slot_at, held, has, kind_of, level_of, read, write, delete}
 
 infixr 20 ◌≫=◌
 -- one test after the other: the first that fails gives the fault

@@ -186,28 +186,30 @@ orderly_entered d d' d'' q i e inside o o' object grows same index after = subst
 pub made_fits : (t claim n k a b : ℕ) → claim + n ≤ 2048 → a ≡ block_start t + claim → b ≡ a + 4 * k → (leb (block_start t + 4 * k) b && leb (b - 4 * k - block_start t) 2048) ≡ true
 made_fits t claim n k a b room begin base = rw (le-leb (block_start t + 4 * k) b (omega arith), le-leb (b - 4 * k - block_start t) 2048 (omega arith))
 
--- the current context ends
-module _ (s : State) (q c : ℕ) (o : IsOrderly s) (h : q < length s.tables) (h' : q < length s.stacks) (now : current (stack s q) ≡ Some c) where
-  abbrev es : List Entry
-  es = (table s q).entries
-
-  cs : List ℕ
-  cs = popped (stack s q)
-
-  is : stack s q ≡ c ∷ cs
-  unfolding cs
-  is = top (stack s q) now
+-- the current context is a storage object
+module _ (s : State) (q c : ℕ) (o : IsOrderly s) (now : current (stack s q) ≡ Some c) where
+  is_top : stack s q ≡ c ∷ popped (stack s q)
+  is_top = top (stack s q) now
     where
       top : (ks : List ℕ) → current ks ≡ Some c → ks ≡ c ∷ popped ks
       top [] e = cc
       top (k ∷ ks) e = let same : k ≡ c = cc in rw same
 
-  opened : are_contexts es (length es) (c ∷ cs) ≡ true
-  opened = rw is at (o.contexts q)
+  opened : are_contexts (table s q).entries (length (table s q).entries) (c ∷ popped (stack s q)) ≡ true
+  opened = rw is_top at (o.contexts q)
+
+  pub is_opened : is_object (entry s q c) ≡ true
+  unfolding are_contexts entry
+  is_opened = (and_parts (is_object (slice_get (table s q).entries c)) (are_contexts (table s q).entries c (popped (stack s q))) (and_parts (ltb c (length (table s q).entries)) (is_object (slice_get (table s q).entries c) && are_contexts (table s q).entries c (popped (stack s q))) opened).1).0
+
+-- the current context ends
+module _ (s : State) (q c : ℕ) (o : IsOrderly s) (h : q < length s.tables) (h' : q < length s.stacks) (now : current (stack s q) ≡ Some c) where
+  abbrev es : List Entry
+  es = (table s q).entries
 
   object : is_object (slice_get es c) ≡ true
-  unfolding are_contexts
-  object = (and_parts (is_object (slice_get es c)) (are_contexts es c cs) (and_parts (ltb c (length es)) (is_object (slice_get es c) && are_contexts es c cs) opened).1).0
+  unfolding entry
+  object = is_opened s q c o now
 
   pub may_leave : can_leave s q c ≡ true
   unfolding can_leave shown entry
@@ -220,13 +222,13 @@ module _ (s : State) (q c : ℕ) (o : IsOrderly s) (h : q < length s.tables) (h'
       go None e = let wrong : false ≡ true = rw e at object in cc
 
   pub orderly_left : IsOrderly (leave q c s)
-  unfolding leave cs
+  unfolding leave
   orderly_left =
       let x : Table = record { entries = take c es; claim = (shown s q c).base - 4 * (shown s q c).slots - block_start q } in
       let u : State = with_table q x s in
       orderly_but s (with_stack q (popped (stack s q)) u) q o (λ v ne. same_tables u q (popped (stack s q)) v ∙ other_tables s q x v ne) (λ v ne. other_stacks u q (popped (stack s q)) v ne ∙ same_stacks s q x v)
       (rw (same_tables u q (popped (stack s q)) q, new_table s q x h) (all_fit_take q c es (o.entries q)))
-      (rw (same_tables u q (popped (stack s q)) q, new_table s q x h, new_stack u q (popped (stack s q)) (omega (arith, same_heights s q x))) (contexts_closed es (length es) c cs (omega arith) opened))
+      (rw (same_tables u q (popped (stack s q)) q, new_table s q x h, new_stack u q (popped (stack s q)) (omega (arith, same_heights s q x))) (contexts_closed es (length es) c (popped (stack s q)) (omega arith) (opened s q c o now)))
 
 -- the runs of what an entry shows end below 65,536, where its counts are numbers of 16 bits
 pub runs_end : (s : State) (t i : ℕ) → IsOrderly s → (shown s t i).bytes < 65536 → (shown s t i).slots < 65536 → ((shown s t i).byte + (shown s t i).bytes < 65536) × ((shown s t i).slot + (shown s t i).slots < 65536)

@@ -1,3 +1,4 @@
 pub mod Answers
 pub mod Orderly
 pub mod Steps
+pub mod Callers

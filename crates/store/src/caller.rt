@@ -4,6 +4,7 @@ ghost use Rattle.std.specs.Prelude.{◌≡◌, ◌<◌};
 
 use rules::below::Below;
 use rules::fault::{Fault, Reason};
+use rules::shown::Shown;
 
 // A fault of no operand.
 pub(crate) fn refusal_of(reason: Reason, task: u32) -> Fault
@@ -28,53 +29,55 @@ pub(crate) fn demand(holds: bool, reason: Reason, task: u32) -> Result<(), Fault
     }
 }
 
-// A task, with its current context. Its fields are plain numbers, and those of an operand too, since the check covers a struct
-// that is handed on by value twice only where it is flat.
+// A task, with its current context and what that shows.
 #[derive(Clone, Copy)]
 pub(crate) struct Caller {
     pub(crate) task: u32,
     pub(crate) context: u32,
+    pub(crate) here: Shown,
     ghost known: { task < 9 },
 }
 
-// A selector, with the task that gave it, the task's current context, and its place among the operands.
+// A selector, with the task that gave it, the task's current context and what that shows, and its place among the operands.
 #[derive(Clone, Copy)]
 pub(crate) struct Operand {
     pub(crate) task: u32,
     pub(crate) context: u32,
+    pub(crate) here: Shown,
     pub(crate) place: u8,
     pub(crate) selector: u16,
 }
 
 impl Caller {
     // The table of the task.
-    pub(crate) fn table(self) -> Below<9>
-        ensures { result ≡ self.task }
+    pub(crate) fn table(&self) -> Below<9>
+        ensures { result ≡ self.now.task }
     {
         Below::low(self.task)
     }
 
-    pub(crate) fn operand(self, place: u8, selector: u16) -> Operand
-        ensures { result ≡ record { task = self.task; context = self.context; place = place; selector = selector } }
+    pub(crate) fn operand(&self, place: u8, selector: u16) -> Operand
+        ensures { result ≡ record { task = self.now.task; context = self.now.context; here = self.now.here; place = place; selector = selector } }
     {
         Operand {
             task: self.task,
             context: self.context,
+            here: self.here,
             place,
             selector,
         }
     }
 
     // A fault of no operand.
-    pub(crate) fn refusal(self, reason: Reason) -> Fault
-        ensures { result ≡ refusal reason self.task }
+    pub(crate) fn refusal(&self, reason: Reason) -> Fault
+        ensures { result ≡ refusal reason self.now.task }
     {
         refusal_of(reason, self.task)
     }
 
     // A test, or the fault of its failing.
-    pub(crate) fn demand(self, holds: bool, reason: Reason) -> Result<(), Fault>
-        ensures { result ≡ check holds (refusal reason self.task) }
+    pub(crate) fn demand(&self, holds: bool, reason: Reason) -> Result<(), Fault>
+        ensures { result ≡ check holds (refusal reason self.now.task) }
     {
         demand(holds, reason, self.task)
     }
@@ -82,8 +85,8 @@ impl Caller {
 
 impl Operand {
     // A test, or the fault of its failing at this operand.
-    pub(crate) fn demand(self, holds: bool, reason: Reason) -> Result<(), Fault>
-        ensures { result ≡ check holds (refusal_at reason self.task self.place self.selector) }
+    pub(crate) fn demand(&self, holds: bool, reason: Reason) -> Result<(), Fault>
+        ensures { result ≡ check holds (refusal_at reason self.now.task self.now.place self.now.selector) }
     {
         if holds {
             Ok(())
@@ -93,8 +96,8 @@ impl Operand {
     }
 
     // A fault of this operand.
-    pub(crate) fn refusal(self, reason: Reason) -> Fault
-        ensures { result ≡ refusal_at reason self.task self.place self.selector }
+    pub(crate) fn refusal(&self, reason: Reason) -> Fault
+        ensures { result ≡ refusal_at reason self.now.task self.now.place self.now.selector }
     {
         Fault {
             reason,

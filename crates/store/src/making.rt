@@ -2,7 +2,8 @@
 ghost use Rattle.std.specs.Prelude.{◌≡◌, ◌+◌, ◌*◌, ◌<◌, true, if◌then◌else◌, Ok, Err, Some, None};
 ghost use Rattle.rules.specs.Effects.{add, done, enter, leave, new_object, next_index, overwrite, put, first_slot};
 ghost use Rattle.rules.specs.Operators.{makes, stores};
-ghost use Rattle.rules.specs.State.{encode, level as level_of, stack as stack_at, table as table_at, takes, word_bytes};
+ghost use Rattle.bank.specs.Words.{word_bytes};
+ghost use Rattle.rules.specs.State.{encode, level as level_of, stack as stack_at, table as table_at, takes};
 ghost use Rattle.rules.specs.Tests.{current as current_of, has_room, refusal};
 ghost use Rattle.rules.specs.declared.fault.Reason.TheVariants.{NoRoom};
 ghost use Rattle.store.specs.Orderly.{fits_table};
@@ -102,8 +103,8 @@ impl<B: Bank> Store<B> {
 
     // Stores a descriptor in a slot.
     #[tactic(auto, unfolding(rules::specs::Operators::stores))]
-    pub(crate) fn store(&mut self, caller: Caller, d: Descriptor, place: Place) -> Result<(), Fault>
-        ensures { (result, self.new) ≡ done self.old (stores self.old caller.task d place) }
+    pub(crate) fn store(&mut self, caller: &Caller, d: Descriptor, place: Place) -> Result<(), Fault>
+        ensures { (result, self.new) ≡ done self.old (stores self.old caller.now.task d place) }
     {
         caller.demand(self.level_of(&d) <= place.by.level, Reason::StoringRule)?;
         self.put(place, u32::from(d));
@@ -114,13 +115,13 @@ impl<B: Bank> Store<B> {
     #[tactic(auto, unfolding(rules::specs::Operators::makes))]
     pub(crate) fn make_named(
         &mut self,
-        caller: Caller,
+        caller: &Caller,
         place: Place,
         size: u32,
         slots: u32,
         kind: Kind,
     ) -> Result<(), Fault>
-        ensures { (result, self.new) ≡ done self.old (makes self.old caller.task place size slots kind) }
+        ensures { (result, self.new) ≡ done self.old (makes self.old caller.now.task place size slots kind) }
     {
         let Some(extent) = Extent::new(size, slots) else {
             return Err(caller.refusal(Reason::OutOfRange));
@@ -137,12 +138,12 @@ impl<B: Bank> Store<B> {
     #[tactic(auto, unfolding(crate::specs::Steps::refining))]
     pub(crate) fn refine_named(
         &mut self,
-        caller: Caller,
+        caller: &Caller,
         source: Descriptor,
         place: Place,
         runs: Runs,
     ) -> Result<(), Fault>
-        ensures { (result, self.new) ≡ done self.old (refining self.old caller.task source place runs) }
+        ensures { (result, self.new) ≡ done self.old (refining self.old caller.now.task source place runs) }
     {
         let shown = self.shown(source.table.get() as u32, source.index.get() as u32);
         caller.demand(runs.lie_within(shown), Reason::OutOfRange)?;

@@ -24,9 +24,9 @@ impl<B: Bank> Store<B> {
         ensures { (result, self.new) ≡ done self.old (copy_plan task source destination self.old) }
     {
         let caller = self.caller(task)?;
-        let descriptor = self.source(caller.operand(1, source))?;
-        let place = self.destination(caller.operand(2, destination))?;
-        self.store(caller, descriptor, place)
+        let descriptor = self.source(&caller.operand(1, source))?;
+        let place = self.destination(&caller.operand(2, destination))?;
+        self.store(&caller, descriptor, place)
     }
 
     // Empties the destination.
@@ -35,7 +35,7 @@ impl<B: Bank> Store<B> {
         ensures { (result, self.new) ≡ done self.old (null_plan task destination self.old) }
     {
         let caller = self.caller(task)?;
-        let place = self.destination(caller.operand(1, destination))?;
+        let place = self.destination(&caller.operand(1, destination))?;
         self.put(place, 0);
         Ok(())
     }
@@ -52,8 +52,8 @@ impl<B: Bank> Store<B> {
         ensures { (result, self.new) ≡ done self.old (restrict_plan task source destination mask self.old) }
     {
         let caller = self.caller(task)?;
-        let descriptor = self.source(caller.operand(1, source))?;
-        let place = self.destination(caller.operand(2, destination))?;
+        let descriptor = self.source(&caller.operand(1, source))?;
+        let place = self.destination(&caller.operand(2, destination))?;
         let Some(mask) = Rights::new(mask) else {
             return Err(caller.refusal(Reason::OutOfRange));
         };
@@ -61,7 +61,7 @@ impl<B: Bank> Store<B> {
             rights: descriptor.rights & mask,
             ..descriptor
         };
-        self.store(caller, restricted, place)
+        self.store(&caller, restricted, place)
     }
 
     // Makes a generic storage object of a task at its level, and names it in the destination.
@@ -76,8 +76,8 @@ impl<B: Bank> Store<B> {
         ensures { (result, self.new) ≡ done self.old (create_plan task destination size slots self.old) }
     {
         let caller = self.caller(task)?;
-        let place = self.destination(caller.operand(1, destination))?;
-        self.make_named(caller, place, size, slots, Kind::GENERIC)
+        let place = self.destination(&caller.operand(1, destination))?;
+        self.make_named(&caller, place, size, slots, Kind::GENERIC)
     }
 
     // Makes a storage object of the controlled type of a task at its level, and names it in the destination.
@@ -93,9 +93,9 @@ impl<B: Bank> Store<B> {
         ensures { (result, self.new) ≡ done self.old (typed_plan task control destination size slots self.old) }
     {
         let caller = self.caller(task)?;
-        let control = self.type_control(Right::Type1, caller.operand(1, control))?;
-        let place = self.destination(caller.operand(2, destination))?;
-        self.make_named(caller, place, size, slots, control.kind)
+        let control = self.type_control(Right::Type1, &caller.operand(1, control))?;
+        let place = self.destination(&caller.operand(2, destination))?;
+        self.make_named(&caller, place, size, slots, control.kind)
     }
 
     // Fills the whole buffer with data bytes of the source from an offset on.
@@ -104,7 +104,7 @@ impl<B: Bank> Store<B> {
         ensures { ((result, buffer.new), self.now) ≡ received buffer.old (done self.now (read_plan task source offset (length buffer.old) self.now)) }
     {
         let caller = self.caller(task)?;
-        let descriptor = self.source_with(Right::Read, caller.operand(1, source))?;
+        let descriptor = self.source_with(Right::Read, &caller.operand(1, source))?;
         let shown = self.shown_of(&descriptor);
         caller.demand(
             ranges::run_fits(offset, buffer.len(), shown.bytes),
@@ -126,7 +126,7 @@ impl<B: Bank> Store<B> {
         ensures { (result, self.new) ≡ done self.old (write_plan task source offset content.now self.old) }
     {
         let caller = self.caller(task)?;
-        let descriptor = self.source_with(Right::Write, caller.operand(1, source))?;
+        let descriptor = self.source_with(Right::Write, &caller.operand(1, source))?;
         let shown = self.shown_of(&descriptor);
         caller.demand(
             ranges::run_fits(offset, content.len(), shown.bytes),
@@ -142,7 +142,7 @@ impl<B: Bank> Store<B> {
         ensures { (result, self.now) ≡ seen (done self.now (see_plan task source self.now)) }
     {
         let caller = self.caller(task)?;
-        let descriptor = self.source_or_null(caller.operand(1, source))?;
+        let descriptor = self.source_or_null(&caller.operand(1, source))?;
         Ok(descriptor.map(|d| (d.table.get(), d.index.get(), d.rights.sum())))
     }
 
@@ -152,7 +152,7 @@ impl<B: Bank> Store<B> {
         ensures { (result, self.now) ≡ listed (done self.now (look_plan task source self.now)) }
     {
         let caller = self.caller(task)?;
-        let descriptor = self.source(caller.operand(1, source))?;
+        let descriptor = self.source(&caller.operand(1, source))?;
         let entry = self.entry_of(&descriptor);
         let shown = self.shown_of(&descriptor);
         Ok((
@@ -179,19 +179,19 @@ impl<B: Bank> Store<B> {
     {
         let caller = self.caller(task)?;
         let operand = caller.operand(1, source);
-        let descriptor = self.source(operand)?;
+        let descriptor = self.source(&operand)?;
         operand.demand(
             ranges::has_parts(self.entry_of(&descriptor)),
             Reason::WrongType,
         )?;
-        let place = self.destination(caller.operand(2, destination))?;
+        let place = self.destination(&caller.operand(2, destination))?;
         let runs = Runs {
             byte,
             bytes: byte_count,
             slot,
             slots: slot_count,
         };
-        self.refine_named(caller, descriptor, place, runs)
+        self.refine_named(&caller, descriptor, place, runs)
     }
 
     // Opens a context at the next level, with the argument, possibly null, in its slot 0.
@@ -202,7 +202,7 @@ impl<B: Bank> Store<B> {
         let caller = self.caller(task)?;
         let level = self.level(task);
         caller.demand(level < LEVELS as u32, Reason::NoLevel)?;
-        let passed = self.source_or_null(caller.operand(1, argument))?;
+        let passed = self.source_or_null(&caller.operand(1, argument))?;
         let Some(slots) = ContextSlots::new(slots) else {
             return Err(caller.refusal(Reason::OutOfRange));
         };
@@ -222,7 +222,7 @@ impl<B: Bank> Store<B> {
         let Some(calling) = self.calling(task) else {
             return Err(caller.refusal(Reason::NoLevel));
         };
-        let passed = self.source_or_null(caller.operand(1, res))?;
+        let passed = self.source_or_null(&caller.operand(1, res))?;
         let place = Place {
             by: self.shown(task, calling),
             at: 0,

@@ -1,7 +1,8 @@
 // The selector layer: what the environment of a selector shows, and the slot there that it names.
 ghost use Rattle.rules.specs.Code.{weight};
-ghost use Rattle.rules.specs.State.{stack as stack_at};
+ghost use Rattle.rules.specs.State.{shown as shown_at, stack as stack_at};
 ghost use Rattle.rules.specs.Tests.{current as current_of, environment, operator, resolve};
+ghost use Rattle.store.specs.Callers.{Stands};
 ghost use Rattle.std.specs.Prelude.{◌≡◌, IfOk, IfErr, Ok, Err, Some};
 
 use crate::caller::{Caller, Operand, demand, refusal_of};
@@ -17,6 +18,7 @@ impl<B: Bank> Store<B> {
     pub(crate) fn caller(&self, task: u32) -> Result<Caller, Fault>
         ensures ok { IfOk result (λ c. (c.task ≡ task) × (operator self.now task ≡ Ok c.context)) }
         ensures opened { IfOk result (λ c. current_of (stack_at self.now task) ≡ Some c.context) }
+        ensures here { IfOk result (λ c. shown_at self.now task c.context ≡ c.here) }
         ensures err { IfErr result (λ f. operator self.now task ≡ Err f) }
     {
         demand(self.has_large_bank(), Reason::SmallBank, task)?;
@@ -24,19 +26,24 @@ impl<B: Bank> Store<B> {
         let Some(context) = self.current(task) else {
             return Err(refusal_of(Reason::NoTask, task));
         };
-        Ok(Caller { task, context })
+        let here = self.opened(task, context);
+        Ok(Caller {
+            task,
+            context,
+            here,
+        })
     }
 
     #[tactic(auto, unfolding(rules::specs::Tests::environment))]
-    fn environment(&self, right: Right, operand: Operand) -> Result<Shown, Fault>
-        ensures { result ≡ environment (weight right) self.now operand.task operand.context operand.place operand.selector }
+    fn environment(&self, right: Right, operand: &Operand) -> Result<Shown, Fault>
+        requires { Stands self.now operand.now }
+        ensures { result ≡ environment (weight right) self.now operand.now.task operand.now.context operand.now.place operand.now.selector }
     {
-        let current = self.shown(operand.task, operand.context);
         let slot = operand.selector % 4;
         if slot == 0 {
-            return Ok(current);
+            return Ok(operand.here);
         }
-        let Some(descriptor) = self.named(self.word_at(current.slot_at(slot))) else {
+        let Some(descriptor) = self.named(self.word_at(operand.here.slot_at(slot))) else {
             return Err(operand.refusal(Reason::NullEnvironment));
         };
         operand.demand(descriptor.rights.contains(right), Reason::EnvironmentRight)?;
@@ -45,8 +52,9 @@ impl<B: Bank> Store<B> {
 
     // The slot that an operand names, where its environment gives a right.
     #[tactic(auto, unfolding(rules::specs::Tests::resolve))]
-    pub(crate) fn resolve(&self, right: Right, operand: Operand) -> Result<Place, Fault>
-        ensures { result ≡ resolve (weight right) self.now operand.task operand.context operand.place operand.selector }
+    pub(crate) fn resolve(&self, right: Right, operand: &Operand) -> Result<Place, Fault>
+        requires { Stands self.now operand.now }
+        ensures { result ≡ resolve (weight right) self.now operand.now.task operand.now.context operand.now.place operand.now.selector }
     {
         let by = self.environment(right, operand)?;
         let at = operand.selector / 4;

@@ -1,9 +1,10 @@
 // A store: its directory, and the bank that holds the bytes of its objects.
-ghost use Rattle.std.specs.Prelude.{◌≡◌, ◌+◌, ◌<◌, OnSome, length, nat_le};
+ghost use Rattle.std.specs.Prelude.{◌≡◌, ◌+◌, ◌<◌, OnSome, Some, length, nat_le};
 ghost use Rattle.bank.specs.Runs.{read_run};
 ghost use Rattle.rules.specs.Effects.{overwrite, put};
 ghost use Rattle.rules.specs.Operators.{calling as calling_of};
-ghost use Rattle.rules.specs.State.{empty, entry as entry_at, level as level_of, shown as shown_at, stack as stack_at, word_at};
+ghost use Rattle.bank.specs.Words.{word_at};
+ghost use Rattle.rules.specs.State.{empty, entry as entry_at, level as level_of, shown as shown_at, stack as stack_at};
 ghost use Rattle.rules.specs.Tests.{current as current_of};
 
 use bank::Bank;
@@ -88,6 +89,18 @@ impl<B: Bank> Store<B> {
         self.directory.current(task)
     }
 
+    // What the current context of a task shows. It is a storage object.
+    #[tactic(auto, unfolding(rules::specs::State::shown))]
+    pub(crate) fn opened(&self, task: u32, context: u32) -> Shown
+        requires { current_of (stack_at self.now task) ≡ Some context }
+        ensures { result ≡ shown_at self.now task context }
+    {
+        let Some(Entry::Object(object)) = self.directory.entry(task, context) else {
+            unreachable!()
+        };
+        Shown::whole(task, context, object)
+    }
+
     // The context from which the current one of a task was called.
     pub(crate) fn calling(&self, task: u32) -> Option<u32>
         ensures { result ≡ calling_of (stack_at self.now task) }
@@ -96,13 +109,10 @@ impl<B: Bank> Store<B> {
     }
 
     // The word at an address.
-    #[tactic(auto, unfolding(rules::specs::State::word_at, bank::specs::Runs::read_run))]
     pub(crate) fn word_at(&self, address: u32) -> u32
         ensures { result ≡ word_at self.now.bytes address }
     {
-        let mut four = [0u8; 4];
-        self.bank.read_run(address, &mut four);
-        u32::from_le_bytes(four)
+        self.bank.read_word(address)
     }
 
     // Fills the buffer with the bytes from an address on.
@@ -121,10 +131,10 @@ impl<B: Bank> Store<B> {
     }
 
     // Puts a word into a slot.
-    #[tactic(auto, unfolding(rules::specs::Effects::put, rules::specs::State::word_bytes))]
+    #[tactic(auto, unfolding(rules::specs::Effects::put, rules::specs::Effects::overwrite))]
     pub(crate) fn put(&mut self, place: Place, word: u32)
         ensures { self.new ≡ put place word self.old }
     {
-        self.overwrite(place.by.slot_at(place.at), &word.to_le_bytes());
+        self.bank.write_word(place.by.slot_at(place.at), word);
     }
 }

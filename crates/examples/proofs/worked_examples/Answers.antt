@@ -2,7 +2,8 @@ use Rattle.std.proofs.Common.{ℕ, List, refl}
 use Rattle.hamming.specs.Code.{code_word, data_bits, syndrome}
 use Rattle.bank.specs.Runs.{read_run}
 use Rattle.rules.specs.declared.fault.Reason.TheVariants.{NullEnvironment, NotDeletable, OutOfRange, NoRoom}
-use Rattle.rules.specs.State.{table, stack, entry, shown, held, encode, word_bytes}
+use Rattle.bank.specs.Words.{word_bytes}
+use Rattle.rules.specs.State.{table, stack, entry, shown, held, encode}
 use Rattle.rules.specs.Effects.{overwrite, put}
 use Rattle.rules.specs.Operators.{null_plan, create_plan, read_plan, see_plan, call_plan, return_plan}
 use Rattle.examples.proofs.Stages.{usable_3, usable_35, reads, reads_not, creates, creates_not, nulls_not, nulls_not_first, sees, sees_not}

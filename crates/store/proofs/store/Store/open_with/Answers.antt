@@ -1,6 +1,6 @@
 use Rattle.std.proofs.Common.{arith}
 use Rattle.std.proofs.lemmas.Grind.{common_steps}
-use Rattle.rules.specs.State.{word_bytes}
+use Rattle.bank.specs.Words.{word_bytes}
 use Rattle.store.proofs.store.Store.open_with.Goals as goal
 
 pub returns-clause-after : goal.returns-clause-after
