@@ -116,10 +116,17 @@ impl<U: Unit> Bank for LentBank<'_, U> {
 
     fn read_run(&self, address: u32, out: &mut [u8]) {
         let units = units::used(self.memory);
-        let (from, inside) = units::clip(units.len(), address, out.len());
-        let (known, past) = out.split_at_mut(inside);
-        U::decode_run(&units[from..from + inside], known);
-        past.fill(0);
+        let at = address as usize;
+        if out.len() == 1 {
+            out[0] = self.read(address);
+        } else if out.len() <= units.len() && at <= units.len() - out.len() {
+            U::decode_run(&units[at..at + out.len()], out);
+        } else {
+            let (from, inside) = units::clip(units.len(), address, out.len());
+            let (known, past) = out.split_at_mut(inside);
+            U::decode_run(&units[from..from + inside], known);
+            past.fill(0);
+        }
     }
 
     fn write_run(&mut self, address: u32, source: &[u8])
@@ -151,7 +158,10 @@ impl<U: Unit> Bank for LentBank<'_, U> {
         let at = address as usize;
         let four = word.to_le_bytes();
         if at + 4 <= units::count(self.memory.len()) {
-            U::encode_run(&mut self.memory[at..at + 4], &four);
+            self.memory[at] = U::encode(four[0]);
+            self.memory[at + 1] = U::encode(four[1]);
+            self.memory[at + 2] = U::encode(four[2]);
+            self.memory[at + 3] = U::encode(four[3]);
         } else {
             self.write_run(address, &four);
         }
