@@ -1,8 +1,18 @@
--- What a call has found of the task that makes it. Assumes nothing.
-use Rattle.std.specs.Prelude.{◌≡◌}
-use Rattle.rules.specs.State.{State, shown}
+-- What a call has found of the task that makes it, and of a word. Assumes nothing.
+use Rattle.std.specs.Prelude.{◌≡◌, Some, None, Option}
+use Rattle.rules.specs.State.{State, entry, shown}
+use Rattle.rules.specs.declared.shown.Descriptor.{Descriptor}
 use Rattle.store.specs.declared.caller.Operand.{Operand}
+use Rattle.store.specs.declared.words.Found.{Found}
 
 -- an operand carries what the context that it names shows
 abbrev pub Stands : State → Operand → Type 0
 Stands s o = shown s o.task o.context ≡ o.here
+
+-- a descriptor was found with the entry that it names
+abbrev pub Names : State → Found → Type 0
+Names s f = entry s f.descriptor.table f.descriptor.index ≡ Some f.entry
+
+abbrev pub descriptor_of : Option Found → Option Descriptor
+descriptor_of (Some f) = Some f.descriptor
+descriptor_of None = None

@@ -2,49 +2,56 @@
 // the fault of its place.
 ghost use Rattle.rules.specs.Code.{weight};
 ghost use Rattle.rules.specs.Tests.{control, destination, source, source_or_null, source_with};
-ghost use Rattle.std.specs.Prelude.{◌≡◌};
-ghost use Rattle.store.specs.Callers.{Stands};
+ghost use Rattle.std.specs.Prelude.{◌≡◌, IfOk, IfErr, IfSome, Ok, Err};
+ghost use Rattle.store.specs.Callers.{Names, Stands, descriptor_of};
 
 use crate::caller::Operand;
 use crate::ranges;
 use crate::store::Store;
+use crate::words::Found;
 use bank::Bank;
 use rules::entry::{Entry, TypeControl};
 use rules::fault::{Fault, Reason};
 use rules::right::Right;
-use rules::shown::{Descriptor, Place};
+use rules::shown::Place;
 
 impl<B: Bank> Store<B> {
     // A source that may be null.
     #[tactic(auto, unfolding(rules::specs::Tests::source_or_null))]
-    pub(crate) fn source_or_null(&self, operand: &Operand) -> Result<Option<Descriptor>, Fault>
+    pub(crate) fn source_or_null(&self, operand: &Operand) -> Result<Option<Found>, Fault>
         requires { Stands self.now operand.now }
-        ensures { result ≡ source_or_null self.now operand.now.task operand.now.context operand.now.place operand.now.selector }
+        ensures ok { IfOk result (λ x. source_or_null self.now operand.now.task operand.now.context operand.now.place operand.now.selector ≡ Ok (descriptor_of x)) }
+        ensures err { IfErr result (λ e. source_or_null self.now operand.now.task operand.now.context operand.now.place operand.now.selector ≡ Err e) }
+        ensures entry { IfOk result (λ x. IfSome x (λ f. Names self.now f)) }
     {
         Ok(self.held(self.resolve(Right::Read, operand)?))
     }
 
     // A source that may not.
     #[tactic(auto, unfolding(rules::specs::Tests::source))]
-    pub(crate) fn source(&self, operand: &Operand) -> Result<Descriptor, Fault>
+    pub(crate) fn source(&self, operand: &Operand) -> Result<Found, Fault>
         requires { Stands self.now operand.now }
-        ensures { result ≡ source self.now operand.now.task operand.now.context operand.now.place operand.now.selector }
+        ensures ok { IfOk result (λ x. source self.now operand.now.task operand.now.context operand.now.place operand.now.selector ≡ Ok x.descriptor) }
+        ensures err { IfErr result (λ e. source self.now operand.now.task operand.now.context operand.now.place operand.now.selector ≡ Err e) }
+        ensures entry { IfOk result (λ f. Names self.now f) }
     {
-        let Some(descriptor) = self.source_or_null(operand)? else {
+        let Some(found) = self.source_or_null(operand)? else {
             return Err(operand.refusal(Reason::NullSource));
         };
-        Ok(descriptor)
+        Ok(found)
     }
 
     // A source whose descriptor has a right.
     #[tactic(auto, unfolding(rules::specs::Tests::source_with))]
-    pub(crate) fn source_with(&self, right: Right, operand: &Operand) -> Result<Descriptor, Fault>
+    pub(crate) fn source_with(&self, right: Right, operand: &Operand) -> Result<Found, Fault>
         requires { Stands self.now operand.now }
-        ensures { result ≡ source_with (weight right) self.now operand.now.task operand.now.context operand.now.place operand.now.selector }
+        ensures ok { IfOk result (λ x. source_with (weight right) self.now operand.now.task operand.now.context operand.now.place operand.now.selector ≡ Ok x.descriptor) }
+        ensures err { IfErr result (λ e. source_with (weight right) self.now operand.now.task operand.now.context operand.now.place operand.now.selector ≡ Err e) }
+        ensures entry { IfOk result (λ f. Names self.now f) }
     {
-        let descriptor = self.source(operand)?;
-        operand.demand(descriptor.rights.contains(right), Reason::MissingRight)?;
-        Ok(descriptor)
+        let found = self.source(operand)?;
+        operand.demand(found.gives(right), Reason::MissingRight)?;
+        Ok(found)
     }
 
     // A source that names a type control and has a right.
@@ -53,8 +60,7 @@ impl<B: Bank> Store<B> {
         requires { Stands self.now operand.now }
         ensures { result ≡ control (weight right) self.now operand.now.task operand.now.context operand.now.place operand.now.selector }
     {
-        let descriptor = self.source_with(right, operand)?;
-        let Some(Entry::Control(control)) = self.entry_of(&descriptor) else {
+        let Entry::Control(control) = self.source_with(right, operand)?.entry else {
             return Err(operand.refusal(Reason::WrongType));
         };
         Ok(control)
@@ -68,7 +74,7 @@ impl<B: Bank> Store<B> {
     {
         let place = self.resolve(Right::Write, operand)?;
         operand.demand(
-            ranges::is_overwritable(self.held(place)),
+            ranges::is_overwritable(&self.held(place)),
             Reason::NotDeletable,
         )?;
         Ok(place)

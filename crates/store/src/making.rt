@@ -6,12 +6,14 @@ ghost use Rattle.bank.specs.Words.{word_bytes};
 ghost use Rattle.rules.specs.State.{encode, level as level_of, stack as stack_at, table as table_at, takes};
 ghost use Rattle.rules.specs.Tests.{current as current_of, has_room, refusal};
 ghost use Rattle.rules.specs.declared.fault.Reason.TheVariants.{NoRoom};
+ghost use Rattle.store.specs.Callers.{Names};
 ghost use Rattle.store.specs.Orderly.{fits_table};
 ghost use Rattle.store.specs.Steps.{if_room, refining};
 
 use crate::caller::{Caller, refusal_of};
 use crate::extent::{ContextSlots, Extent, Runs};
 use crate::store::Store;
+use crate::words::Found;
 use bank::Bank;
 use rules::below::Below;
 use rules::entry::{Entry, Refinement, Storage};
@@ -103,11 +105,17 @@ impl<B: Bank> Store<B> {
 
     // Stores a descriptor in a slot.
     #[tactic(auto, unfolding(rules::specs::Operators::stores))]
-    pub(crate) fn store(&mut self, caller: &Caller, d: Descriptor, place: Place) -> Result<(), Fault>
-        ensures { (result, self.new) ≡ done self.old (stores self.old caller.now.task d place) }
+    pub(crate) fn store(
+        &mut self,
+        caller: &Caller,
+        found: &Found,
+        place: Place,
+    ) -> Result<(), Fault>
+        requires { Names self.old found.now }
+        ensures { (result, self.new) ≡ done self.old (stores self.old caller.now.task found.now.descriptor place) }
     {
-        caller.demand(self.level_of(&d) <= place.by.level, Reason::StoringRule)?;
-        self.put(place, u32::from(d));
+        caller.demand(found.entry.level() <= place.by.level, Reason::StoringRule)?;
+        self.put(place, u32::from(found.descriptor));
         Ok(())
     }
 

@@ -8,7 +8,7 @@ ghost use Rattle.std.specs.Prelude.{◌≡◌, length};
 use crate::extent::{ContextSlots, Runs};
 use crate::ranges;
 use crate::store::Store;
-use crate::words::word_or_null;
+use crate::words::{Found, word_or_null};
 use bank::Bank;
 use rules::fault::{Fault, Reason};
 use rules::kind::Kind;
@@ -24,9 +24,9 @@ impl<B: Bank> Store<B> {
         ensures { (result, self.new) ≡ done self.old (copy_plan task source destination self.old) }
     {
         let caller = self.caller(task)?;
-        let descriptor = self.source(&caller.operand(1, source))?;
+        let found = self.source(&caller.operand(1, source))?;
         let place = self.destination(&caller.operand(2, destination))?;
-        self.store(&caller, descriptor, place)
+        self.store(&caller, &found, place)
     }
 
     // Empties the destination.
@@ -52,16 +52,19 @@ impl<B: Bank> Store<B> {
         ensures { (result, self.new) ≡ done self.old (restrict_plan task source destination mask self.old) }
     {
         let caller = self.caller(task)?;
-        let descriptor = self.source(&caller.operand(1, source))?;
+        let found = self.source(&caller.operand(1, source))?;
         let place = self.destination(&caller.operand(2, destination))?;
         let Some(mask) = Rights::new(mask) else {
             return Err(caller.refusal(Reason::OutOfRange));
         };
-        let restricted = Descriptor {
-            rights: descriptor.rights & mask,
-            ..descriptor
+        let restricted = Found {
+            descriptor: Descriptor {
+                rights: found.descriptor.rights & mask,
+                ..found.descriptor
+            },
+            entry: found.entry,
         };
-        self.store(&caller, restricted, place)
+        self.store(&caller, &restricted, place)
     }
 
     // Makes a generic storage object of a task at its level, and names it in the destination.
@@ -104,8 +107,8 @@ impl<B: Bank> Store<B> {
         ensures { ((result, buffer.new), self.now) ≡ received buffer.old (done self.now (read_plan task source offset (length buffer.old) self.now)) }
     {
         let caller = self.caller(task)?;
-        let descriptor = self.source_with(Right::Read, &caller.operand(1, source))?;
-        let shown = self.shown_of(&descriptor);
+        let found = self.source_with(Right::Read, &caller.operand(1, source))?;
+        let shown = self.shown_of(&found);
         caller.demand(
             ranges::run_fits(offset, buffer.len(), shown.bytes),
             Reason::OutOfRange,
@@ -126,8 +129,8 @@ impl<B: Bank> Store<B> {
         ensures { (result, self.new) ≡ done self.old (write_plan task source offset content.now self.old) }
     {
         let caller = self.caller(task)?;
-        let descriptor = self.source_with(Right::Write, &caller.operand(1, source))?;
-        let shown = self.shown_of(&descriptor);
+        let found = self.source_with(Right::Write, &caller.operand(1, source))?;
+        let shown = self.shown_of(&found);
         caller.demand(
             ranges::run_fits(offset, content.len(), shown.bytes),
             Reason::OutOfRange,
@@ -142,8 +145,11 @@ impl<B: Bank> Store<B> {
         ensures { (result, self.now) ≡ seen (done self.now (see_plan task source self.now)) }
     {
         let caller = self.caller(task)?;
-        let descriptor = self.source_or_null(&caller.operand(1, source))?;
-        Ok(descriptor.map(|d| (d.table.get(), d.index.get(), d.rights.sum())))
+        let Some(found) = self.source_or_null(&caller.operand(1, source))? else {
+            return Ok(None);
+        };
+        let named = found.descriptor;
+        Ok(Some((named.table.get(), named.index.get(), named.rights.sum())))
     }
 
     // The type, the data length, the slot count and the level of what the source names.
@@ -152,14 +158,13 @@ impl<B: Bank> Store<B> {
         ensures { (result, self.now) ≡ listed (done self.now (look_plan task source self.now)) }
     {
         let caller = self.caller(task)?;
-        let descriptor = self.source(&caller.operand(1, source))?;
-        let entry = self.entry_of(&descriptor);
-        let shown = self.shown_of(&descriptor);
+        let found = self.source(&caller.operand(1, source))?;
+        let shown = self.shown_of(&found);
         Ok((
-            ranges::kind_of(&entry).number(),
+            found.entry.kind().number(),
             shown.bytes,
             shown.slots,
-            ranges::level_of(&entry),
+            found.entry.level(),
         ))
     }
 
@@ -179,11 +184,8 @@ impl<B: Bank> Store<B> {
     {
         let caller = self.caller(task)?;
         let operand = caller.operand(1, source);
-        let descriptor = self.source(&operand)?;
-        operand.demand(
-            ranges::has_parts(self.entry_of(&descriptor)),
-            Reason::WrongType,
-        )?;
+        let found = self.source(&operand)?;
+        operand.demand(self.has_parts(&found), Reason::WrongType)?;
         let place = self.destination(&caller.operand(2, destination))?;
         let runs = Runs {
             byte,
@@ -191,7 +193,7 @@ impl<B: Bank> Store<B> {
             slot,
             slots: slot_count,
         };
-        self.refine_named(&caller, descriptor, place, runs)
+        self.refine_named(&caller, found.descriptor, place, runs)
     }
 
     // Opens a context at the next level, with the argument, possibly null, in its slot 0.
@@ -210,7 +212,7 @@ impl<B: Bank> Store<B> {
             self.level_named(&passed) as u32 <= level + 1,
             Reason::StoringRule,
         )?;
-        self.open_with(caller.table(), slots, word_or_null(passed))
+        self.open_with(caller.table(), slots, word_or_null(&passed))
     }
 
     // Puts the result, possibly null, into slot 0 of the calling context, and ends the current level.
@@ -229,14 +231,14 @@ impl<B: Bank> Store<B> {
         };
         let target = caller.operand(2, 0);
         target.demand(
-            ranges::is_overwritable(self.held(place)),
+            ranges::is_overwritable(&self.held(place)),
             Reason::NotDeletable,
         )?;
         caller.demand(
             self.level_named(&passed) <= place.by.level,
             Reason::StoringRule,
         )?;
-        self.put(place, word_or_null(passed));
+        self.put(place, word_or_null(&passed));
         self.close(caller.table(), caller.context);
         Ok(())
     }

@@ -1,14 +1,14 @@
 // Tests of the numbers that calls take, and of the entries that they name.
 ghost use Rattle.std.specs.Prelude.{◌≡◌, ◌+◌, ◌&&◌, ◌||◌, ◌==◌, if◌then◌else◌, Some, None, nat_le, nat_lt};
 ghost use Rattle.rules.specs.Loading.{exists, holds, nameable, user_kind};
-ghost use Rattle.rules.specs.Operators.{has_parts};
-ghost use Rattle.rules.specs.Tests.{fits, kind_by, level_by, overwritable};
+ghost use Rattle.store.specs.Callers.{descriptor_of};
+ghost use Rattle.rules.specs.Tests.{fits, kind_by, overwritable};
 
+use crate::words::Found;
 use rules::below::Below;
 use rules::entry::Entry;
 use rules::kind::Kind;
 use rules::right::Right;
-use rules::shown::Descriptor;
 
 // A type that users give.
 pub(crate) fn user_kind(number: u32) -> Option<Kind>
@@ -63,27 +63,14 @@ pub(crate) fn is_nameable(entry: Option<Entry>) -> bool
 }
 
 // Whether a slot that holds this may be overwritten: it is null, or the descriptor has the delete right.
-pub(crate) fn is_overwritable(held: Option<Descriptor>) -> bool
-    ensures { result ≡ overwritable held }
+pub(crate) fn is_overwritable(held: &Option<Found>) -> bool
+    ensures { result ≡ overwritable (descriptor_of held.now) }
 {
-    held.is_none_or(|d| d.rights.contains(Right::Delete))
-}
-
-pub(crate) fn level_of(entry: &Option<Entry>) -> u8
-    ensures { result ≡ level_by entry.now }
-{
-    entry.as_ref().map_or(0, |e| e.level())
+    held.as_ref().is_none_or(|f| f.gives(Right::Delete))
 }
 
 pub(crate) fn kind_of(entry: &Option<Entry>) -> Kind
     ensures { result ≡ kind_by entry.now }
 {
     entry.as_ref().map_or(Kind::GENERIC, |e| e.kind())
-}
-
-// Whether an entry has parts that a refinement can show.
-pub(crate) fn has_parts(entry: Option<Entry>) -> bool
-    ensures { result ≡ has_parts entry }
-{
-    !matches!(entry, Some(Entry::Control(_)))
 }

@@ -43,11 +43,11 @@ impl<B: Bank> Store<B> {
         if slot == 0 {
             return Ok(operand.here);
         }
-        let Some(descriptor) = self.named(self.word_at(operand.here.slot_at(slot))) else {
+        let Some(found) = self.named(self.word_at(operand.here.slot_at(slot))) else {
             return Err(operand.refusal(Reason::NullEnvironment));
         };
-        operand.demand(descriptor.rights.contains(right), Reason::EnvironmentRight)?;
-        Ok(self.shown_of(&descriptor))
+        operand.demand(found.gives(right), Reason::EnvironmentRight)?;
+        Ok(self.shown_of(&found))
     }
 
     // The slot that an operand names, where its environment gives a right.

@@ -75,6 +75,15 @@ impl<B: Bank> Store<B> {
         self.directory.shown(table, index)
     }
 
+    // What an entry that stands here shows.
+    #[tactic(auto, unfolding(rules::specs::State::shown))]
+    pub(crate) fn shows(&self, table: u32, index: u32, entry: Entry) -> Shown
+        requires { entry_at self.now table index ≡ Some entry }
+        ensures { result ≡ shown_at self.now table index }
+    {
+        self.directory.shows(table, index, entry)
+    }
+
     pub(crate) fn level(&self, task: u32) -> u32
         ensures { result ≡ level_of self.now task }
     {

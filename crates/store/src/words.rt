@@ -1,66 +1,92 @@
 // What words name.
-ghost use Rattle.std.specs.Prelude.{◌≡◌};
-ghost use Rattle.rules.specs.Operators.{level_named, word_of};
-ghost use Rattle.rules.specs.State.{entry as entry_at, held as held_at, named as named_by, shown as shown_at};
-ghost use Rattle.rules.specs.Tests.{level_by};
+ghost use Rattle.std.specs.Prelude.{◌≡◌, IfSome};
+ghost use Rattle.rules.specs.Operators.{has_parts, level_named, word_of};
+ghost use Rattle.rules.specs.Code.{weight};
+ghost use Rattle.rules.specs.State.{entry as entry_at, has, held as held_at, named as named_by, shown as shown_at};
+ghost use Rattle.store.specs.Callers.{Names, descriptor_of};
 
-use crate::ranges;
 use crate::store::Store;
 use bank::Bank;
 use rules::entry::Entry;
+use rules::right::Right;
 use rules::shown::{Descriptor, Place, Shown};
 use rules::words::is_valid;
 
+// A descriptor with the entry that it names.
+#[derive(Clone, Copy)]
+pub(crate) struct Found {
+    pub(crate) descriptor: Descriptor,
+    pub(crate) entry: Entry,
+}
+
+impl Found {
+    // Whether the descriptor has a right.
+    pub(crate) fn gives(&self, right: Right) -> bool
+        ensures { result ≡ has (weight right) self.now.descriptor.rights }
+    {
+        self.descriptor.rights.contains(right)
+    }
+}
+
 // The word of a descriptor that may be null.
-pub(crate) fn word_or_null(named: Option<Descriptor>) -> u32
-    ensures { result ≡ word_of named }
+pub(crate) fn word_or_null(found: &Option<Found>) -> u32
+    ensures { result ≡ word_of (descriptor_of found.now) }
 {
-    named.map_or(0, u32::from)
+    found.as_ref().map_or(0, |f| u32::from(f.descriptor))
 }
 
 impl<B: Bank> Store<B> {
-    // The entry that a descriptor names.
-    pub(crate) fn entry_of(&self, d: &Descriptor) -> Option<Entry>
-        ensures { result ≡ entry_at self.now d.now.table d.now.index }
-    {
-        self.entry(d.table.get() as u32, d.index.get() as u32)
-    }
-
-    // What a descriptor shows.
-    pub(crate) fn shown_of(&self, d: &Descriptor) -> Shown
-        ensures { result ≡ shown_at self.now d.now.table d.now.index }
-    {
-        self.shown(d.table.get() as u32, d.index.get() as u32)
-    }
-
     // What a word names.
     #[tactic(auto, unfolding(rules::specs::State::named))]
-    pub(crate) fn named(&self, word: u32) -> Option<Descriptor>
-        ensures { result ≡ named_by self.now word }
+    pub(crate) fn named(&self, word: u32) -> Option<Found>
+        ensures value { named_by self.now word ≡ descriptor_of result }
+        ensures entry { IfSome result (λ f. Names self.now f) }
     {
+        if !is_valid(word) {
+            return None;
+        }
         let descriptor = Descriptor::from(word);
-        (is_valid(word) && self.entry_of(&descriptor).is_some()).then_some(descriptor)
+        let entry = self.entry(descriptor.table.get() as u32, descriptor.index.get() as u32)?;
+        Some(Found { descriptor, entry })
     }
 
     // What the word in a slot names.
     #[tactic(auto, unfolding(rules::specs::State::held))]
-    pub(crate) fn held(&self, place: Place) -> Option<Descriptor>
-        ensures { result ≡ named_by self.now (held_at self.now place) }
+    pub(crate) fn held(&self, place: Place) -> Option<Found>
+        ensures value { named_by self.now (held_at self.now place) ≡ descriptor_of result }
+        ensures entry { IfSome result (λ f. Names self.now f) }
     {
         self.named(self.word_at(place.by.slot_at(place.at)))
     }
 
-    // The level of the entry that a descriptor names.
-    pub(crate) fn level_of(&self, d: &Descriptor) -> u8
-        ensures { result ≡ level_by (entry_at self.now d.now.table d.now.index) }
+    // What a descriptor shows.
+    pub(crate) fn shown_of(&self, found: &Found) -> Shown
+        requires { Names self.now found.now }
+        ensures { result ≡ shown_at self.now found.now.descriptor.table found.now.descriptor.index }
     {
-        ranges::level_of(&self.entry_of(d))
+        self.shows(
+            found.descriptor.table.get() as u32,
+            found.descriptor.index.get() as u32,
+            found.entry,
+        )
+    }
+
+    // Whether what a descriptor names has parts that a refinement can show.
+    pub(crate) fn has_parts(&self, found: &Found) -> bool
+        requires { Names self.now found.now }
+        ensures { result ≡ has_parts (entry_at self.now found.now.descriptor.table found.now.descriptor.index) }
+    {
+        !matches!(found.entry, Entry::Control(_))
     }
 
     // The level of what a descriptor names, 0 for null.
-    pub(crate) fn level_named(&self, named: &Option<Descriptor>) -> u8
-        ensures { result ≡ level_named self.now named.now }
+    pub(crate) fn level_named(&self, found: &Option<Found>) -> u8
+        requires { IfSome found.now (λ f. Names self.now f) }
+        ensures { result ≡ level_named self.now (descriptor_of found.now) }
     {
-        named.as_ref().map_or(0, |d| self.level_of(d))
+        match found {
+            Some(f) => f.entry.level(),
+            None => 0,
+        }
     }
 }

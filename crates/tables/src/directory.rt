@@ -2,7 +2,7 @@
 ghost use Rattle.std.specs.Prelude.{◌≡◌, ℕ, ◌+◌, ◌-◌, ◌*◌, ◌<◌, ◌≤◌, List, ◌∷◌, IfSome, if◌then◌else◌, Some, None, OnSome, length, nat_lt};
 ghost use Rattle.rules.specs.Effects.{grown, leave as leaving, next_index, sealing, with_stack, with_table};
 ghost use Rattle.rules.specs.Operators.{calling as calling_of};
-ghost use Rattle.rules.specs.State.{block_start, empty, entry as entry_at, level as level_of, shown as shown_at, stack as stack_at, table as table_at};
+ghost use Rattle.rules.specs.State.{block_start, empty, entry as entry_at, level as level_of, shown as shown_at, shown_by, stack as stack_at, table as table_at};
 ghost use Rattle.rules.specs.Tests.{current as current_of};
 
 use crate::stack::Stack;
@@ -53,12 +53,24 @@ impl Directory {
         ensures named { (result.owner < 256) × (result.object < 256) }
     {
         match self.entry(table, index) {
-            Some(Entry::Object(o)) => Shown::whole(table, index, o),
-            Some(Entry::Refined(r)) => match self.entry(r.table as u32, r.index as u32) {
+            Some(entry) => self.shows(table, index, entry),
+            None => Shown::nothing(),
+        }
+    }
+
+    // What an entry that stands here shows.
+    #[tactic(auto, using(std::proofs::lemmas::Option::get_or_from_slice_get, crate::proofs::States::at_none))]
+    pub fn shows(&self, table: u32, index: u32, entry: Entry) -> Shown
+        ensures value { (l : List ℕ) → result ≡ shown_by (state_of self.now l) table index (Some entry) }
+        ensures named { table < 256 → index < 256 → (result.owner < 256) × (result.object < 256) }
+    {
+        match entry {
+            Entry::Object(o) => Shown::whole(table, index, o),
+            Entry::Refined(r) => match self.entry(r.table as u32, r.index as u32) {
                 Some(Entry::Object(o)) => Shown::part(r, o),
                 _ => Shown::nothing(),
             },
-            Some(Entry::Control(_)) | None => Shown::nothing(),
+            Entry::Control(_) => Shown::nothing(),
         }
     }
 

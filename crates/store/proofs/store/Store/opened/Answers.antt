@@ -1,5 +1,5 @@
 use Rattle.std.proofs.Common.{◌≡◌, [], true, Some, rules}
-use Rattle.rules.specs.State.{entry, stack}
+use Rattle.rules.specs.State.{stack}
 use Rattle.rules.specs.Tests.{current}
 use Rattle.tables.specs.declared.directory.Directory.{Directory}
 use Rattle.tables.specs.Live.{state_of}
