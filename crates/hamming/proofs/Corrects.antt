@@ -1,10 +1,10 @@
 -- The laws of the Hamming code, each by a test that is computed at every byte or at every word.
 -- Assumes nothing.
-use Rattle.std.proofs.Common.{◌≡◌, ℕ, ◌+◌, ◌-◌, ◌<◌, ◌≤◌, Bool, true, cond, ◌&&◌, eqb, ltb, sym, refl, ◌∙◌, subst, arith}
+use Rattle.std.proofs.Common.{◌≡◌, ℕ, ◌+◌, ◌-◌, ◌<◌, ◌≤◌, ◌%◌, Bool, true, cond, ◌&&◌, eqb, ltb, List, length, get_or, sym, refl, ◌∙◌, ap, subst, arith}
 use Rattle.std.specs.List.{range_with_len}
 use Rattle.std.proofs.lemmas.Bool.{cond-true, eqb-true, ltb-true}
-use Rattle.hamming.specs.Code.{every, codes, code_word, decoded, syndrome, data_bits, turned, gathered, data_positions, even}
-use Rattle.hamming.proofs.Computed.{below}
+use Rattle.hamming.specs.Code.{every, codes, code_word, corrected, decoded, syndrome, data_bits, turned, gathered, data_positions, even}
+use Rattle.hamming.proofs.Computed.{at_each, below}
 
 ends : (p q r s t u : Bool) → (p && q && r && s && t && u) ≡ true → (p ≡ true) × (u ≡ true)
 ends p q r s t u e = grind arith
@@ -59,3 +59,12 @@ upset_back b k h l u =
     let one : survives b (k - 1) ≡ true = below (survives b) 16 each (k - 1) (omega arith) in
     let same : k - 1 + 1 ≡ k = omega arith in
     eqb-true (decoded (turned (code_word b) k)) b (subst (λ (m : ℕ). eqb (decoded (turned (code_word b) m)) b ≡ true) same one)
+
+-- a table that has at each place what that word reads as has what any word reads as, at its low twelve bits
+pub looked_up : (bs : List ℕ) → length bs ≡ 4096 → every (λ w b. eqb (decoded w) b) 0 bs ≡ true → (w : ℕ) → get_or bs (w % 4096) 0 ≡ decoded w
+looked_up bs l t w =
+    let low : ℕ = w % 4096 in
+    let inside : low < length bs = rw l (omega arith) in
+    let kept : eqb (decoded low) (get_or bs low 0) ≡ true = at_each (λ w b. eqb (decoded w) b) bs t low inside in
+    let same : low % 4096 ≡ low = omega arith in
+    sym (eqb-true (decoded low) (get_or bs low 0) kept) ∙ ap (λ (n : ℕ). data_bits (corrected n)) same

@@ -2,9 +2,10 @@
 // Any one of those twelve bits may turn, and the byte is still read.
 #![tactic(auto)]
 
-ghost use Rattle.std.specs.Prelude.{◌≡◌, ℕ, ◌-◌, ◌%◌, ◌^◌, ◌≤◌, true};
-ghost use Rattle.hamming.specs.Code.{code_word, codes, corrected, data_bits, decoded, every, syndrome, turned};
+ghost use Rattle.std.specs.Prelude.{◌≡◌, ℕ, ◌%◌, ◌==◌, ◌≤◌, true};
+ghost use Rattle.hamming.specs.Code.{code_word, codes, decoded, every, turned};
 
+mod decoded;
 mod table;
 
 // The code words of the bytes 0 to 255, in order.
@@ -14,8 +15,17 @@ fn code_words() -> &'static [u16; 256]
     &table::CODE
 }
 
+// The bytes that the words 0 to 4,095 read as, in order.
+#[tactic(auto, unfolding(crate::specs::Code::data_bits, crate::specs::Code::syndrome))]
+fn decoded_bytes() -> &'static [u8; 4096]
+    ensures { every (λ w b. decoded w == b) 0 result.now ≡ true }
+{
+    &decoded::DECODED
+}
+
 // The word of a byte. The byte comes back from it, and from it with any one bit turned: of positions 1 to 12, which are
 // corrected, or of 13 to 16, which are ignored.
+#[inline(always)]
 pub fn encode(byte: u8) -> u16
     ensures value { result ≡ code_word byte }
     ensures rule { codes byte result ≡ true }
@@ -25,52 +35,12 @@ pub fn encode(byte: u8) -> u16
     code_words()[byte as usize]
 }
 
-// The byte that the data positions of a word hold as they stand.
-#[tactic(auto, unfolding(crate::specs::Code::data_bits))]
-fn data_bits(word: u16) -> u8
-    ensures { result ≡ data_bits word }
-{
-    (word / 4 % 2 + word / 16 % 8 * 2 + word / 256 % 16 * 16) as u8
-}
-
-// The exclusive or of the positions that hold ones.
-fn syndrome_of(word: u16) -> u16
-    ensures { result ≡ syndrome word }
-{
-    (1..13u16)
-        .filter(|k| (word >> (k - 1)) % 2 == 1)
-        .fold(0, |sum, k| sum ^ k)
-}
-
-// The word that has a one at a position and nowhere else.
-fn mask(position: u16) -> u16
-    requires low { 1 ≤ position }
-    requires high { position ≤ 12 }
-    ensures { result ≡ 2 ^ (position - 1) }
-{
-    1 << (position - 1)
-}
-
-// The word with the bit turned back that its syndrome names, if the syndrome is one of the positions.
-fn correct(word: u16) -> u16
-    ensures { result ≡ corrected word }
-{
-    match syndrome_of(word) {
-        position @ 1..=12 => word ^ mask(position),
-        _ => word,
-    }
-}
-
-// The byte that a word reads as. A word of the table needs no correction.
+// The byte that a word reads as: the table's, at the word's low twelve bits.
+#[inline(always)]
+#[tactic(auto, using(crate::proofs::Corrects::looked_up))]
 pub fn decode(word: u16) -> u8
     ensures value { result ≡ decoded word }
     ensures high { (w : ℕ) → w % 4096 ≡ word % 4096 → decoded w ≡ result }
 {
-    let low = word % 4096;
-    let byte = data_bits(low);
-    if encode(byte) == low {
-        byte
-    } else {
-        data_bits(correct(low))
-    }
+    decoded_bytes()[(word % 4096) as usize]
 }
