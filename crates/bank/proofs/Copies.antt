@@ -1,6 +1,6 @@
 -- A run of units in the middle of lent memory: f is where the run begins inside the bank, and k how many of it lie there.
 -- Assumes nothing.
-use Rattle.std.proofs.Common.{append-nil, ◌≡◌, ℕ, ◌+◌, ◌-◌, ◌<◌, ◌≤◌, min, List, [], ◌∷◌, ◌++◌, length, map, suc, set, get_or, take, drop, replicate, sym, ap, ◌∙◌, arith}
+use Rattle.std.proofs.Common.{append-nil, ◌≡◌, ℕ, ◌+◌, ◌-◌, ◌<◌, ◌≤◌, min, List, [], ◌∷◌, ◌++◌, length, map, set, get_or, take, drop, replicate, sym, refl, ap, ◌∙◌, arith}
 use borrow.Rule.Slice.PartMut.{put_mid}
 use Rattle.std.proofs.lemmas.List.{length-take-le, length-drop, length-map, take-map, get_or-take, get_or-drop}
 use Rattle.bank.specs.Runs.{read_run, write_run}
@@ -44,31 +44,6 @@ module _ (X : Type 0) (byte_of : X → ℕ) (unit_of : ℕ → X) (back : (b : �
   pub encoded_beside : unused (put_mid f j m ys) ≡ unused m
   encoded_beside = copied_beside X m (map unit_of bs) a size f k j s e all_in same ys part
 
--- bytes that become units one by one, near enough to the front
-module _ (X : Type 0) (byte_of : X → ℕ) (unit_of : ℕ → X) (back : (b : ℕ) → b < 256 → byte_of (unit_of b) ≡ b) (bytes_of : List X → List ℕ) (bytes_each : (us : List X) → bytes_of us ≡ map byte_of us) (units_of : List ℕ → List X) (units_each : (bs : List ℕ) → units_of bs ≡ map unit_of bs) (m : List X) (bs : List ℕ) (small : (i : ℕ) → get_or bs i 0 < 256) (a : ℕ) (short : length bs ≤ 65536 - a) where
-  units : length (map unit_of bs) ≤ 65536 - a
-  units = rw length-map short
-
-  by_units : used (write_run m a (map unit_of bs)) ≡ write_run (used m) a (map unit_of bs)
-  by_units = write_run-used m a (map unit_of bs) units
-
-  pub each_in : used (write_run m a (map unit_of bs)) ≡ write_run (used m) a (units_of bs)
-  each_in = rw (units_each bs) by_units
-
-  pub each_means : bytes_of (used (write_run m a (map unit_of bs))) ≡ write_run (bytes_of (used m)) a bs
-  each_means = ap bytes_of by_units ∙ bytes_of-write_run X byte_of unit_of back bytes_of bytes_each (used m) a bs small
-
-  pub each_beside : unused (write_run m a (map unit_of bs)) ≡ unused m
-  each_beside = write_run-unused m a (map unit_of bs) units
-
-pub four_units : {X : Type 0} (m : List X) (a : ℕ) (u v w x : X) → set (set (set (set m a u) (a + 1) v) (a + 2) w) (a + 3) x ≡ write_run m a (u ∷ v ∷ w ∷ x ∷ [])
-unfolding write_run
-four_units m a u v w x =
-    let one : suc a ≡ a + 1 = omega arith in
-    let two : suc (suc a) ≡ a + 2 = omega arith in
-    let three : suc (suc (suc a)) ≡ a + 3 = omega arith in
-    rw (three, two, one)
-
 -- the k bytes that lie inside, copied, and zeros behind them
 pub copied_out : (l : List ℕ) (a n f k : ℕ) → f ≡ min a (length l) → k ≡ min n (length l - f) → (known zeros : List ℕ) → known ≡ take k (drop f l) → zeros ≡ replicate (n - k) 0 → known ++ zeros ≡ read_run l a n
 copied_out l a n f k e g known zeros h z = filled_run l a n k known zeros (omega arith) short each z
@@ -107,3 +82,20 @@ unfolding read_run
 one_out l a [] b long e = cc
 one_out l a (x ∷ []) b long e = ap (λ (y : ℕ). y ∷ []) e
 one_out l a (x ∷ y ∷ out) b long e = absurd (omega (arith, long))
+
+-- a list of four, all of whose places are set
+pub four_set : {X : Type 0} (us : List X) (u v w x : X) → length us ≡ 4 → set (set (set (set us 0 u) 1 v) 2 w) 3 x ≡ u ∷ v ∷ w ∷ x ∷ []
+four_set [] u v w x long = cc
+four_set (a ∷ []) u v w x long = absurd (omega (arith, long))
+four_set (a ∷ b ∷ []) u v w x long = absurd (omega (arith, long))
+four_set (a ∷ b ∷ c ∷ []) u v w x long = absurd (omega (arith, long))
+four_set (a ∷ b ∷ c ∷ d ∷ []) u v w x long = refl
+four_set (a ∷ b ∷ c ∷ d ∷ e ∷ us) u v w x long = absurd (omega (arith, long))
+
+pub four_of : (bs : List ℕ) → length bs ≡ 4 → bs ≡ get_or bs 0 0 ∷ get_or bs 1 0 ∷ get_or bs 2 0 ∷ get_or bs 3 0 ∷ []
+four_of [] long = cc
+four_of (a ∷ []) long = absurd (omega (arith, long))
+four_of (a ∷ b ∷ []) long = absurd (omega (arith, long))
+four_of (a ∷ b ∷ c ∷ []) long = absurd (omega (arith, long))
+four_of (a ∷ b ∷ c ∷ d ∷ []) long = refl
+four_of (a ∷ b ∷ c ∷ d ∷ e ∷ bs) long = absurd (omega (arith, long))

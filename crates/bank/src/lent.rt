@@ -79,15 +79,35 @@ impl<'a, U: Unit> LentBank<'a, U> {
     {
         let units = units::used(self.memory);
         let at = address as usize;
-        if at + 4 <= units.len() {
-            let mut four = [0u8; 4];
-            U::decode_run(&units[at..at + 4], &mut four);
-            return four;
+        if at + 4 > units.len() {
+            return self.four_at_the_end(address);
         }
+        let mut four = [0u8; 4];
+        U::decode_run(&units[at..at + 4], &mut four);
+        four
+    }
+
+    // The same where not all of them lie inside.
+    #[cold]
+    #[inline(never)]
+    fn four_at_the_end(&self, address: u32) -> [u8; 4]
+        ensures { result ≡ read_run (U.bytes_of (used self.now.memory.now)) address 4 }
+    {
         let mut four = [0u8; 4];
         self.read_run(address, &mut four);
         four
     }
+}
+
+// Fills four units with as many bytes.
+fn encode_four<U: Unit>(units: &mut [U], four: [u8; 4])
+    requires { length units.old ≡ 4 }
+    ensures { units.new ≡ U.units_of four }
+{
+    units[0] = U::encode(four[0]);
+    units[1] = U::encode(four[1]);
+    units[2] = U::encode(four[2]);
+    units[3] = U::encode(four[3]);
 }
 
 impl<U: Unit> Bank for LentBank<'_, U> {
@@ -158,10 +178,7 @@ impl<U: Unit> Bank for LentBank<'_, U> {
         let at = address as usize;
         let four = word.to_le_bytes();
         if at + 4 <= units::count(self.memory.len()) {
-            self.memory[at] = U::encode(four[0]);
-            self.memory[at + 1] = U::encode(four[1]);
-            self.memory[at + 2] = U::encode(four[2]);
-            self.memory[at + 3] = U::encode(four[3]);
+            encode_four(&mut self.memory[at..at + 4], four);
         } else {
             self.write_run(address, &four);
         }

@@ -51,12 +51,16 @@ impl<B: Bank> Store<B> {
     }
 
     // The slot that an operand names, where its environment gives a right.
-    #[tactic(auto, unfolding(rules::specs::Tests::resolve))]
+    #[tactic(auto, unfolding(rules::specs::Tests::resolve, rules::specs::Tests::environment))]
     pub(crate) fn resolve(&self, right: Right, operand: &Operand) -> Result<Place, Fault>
         requires { Stands self.now operand.now }
         ensures { result ≡ resolve (weight right) self.now operand.now.task operand.now.context operand.now.place operand.now.selector }
     {
-        let by = self.environment(right, operand)?;
+        let by = if operand.selector % 4 == 0 {
+            operand.here
+        } else {
+            self.environment(right, operand)?
+        };
         let at = operand.selector / 4;
         operand.demand(at < by.slots, Reason::NoSlot)?;
         Ok(Place { by, at })

@@ -3,7 +3,7 @@ use Rattle.bank.specs.Units.{used}
 use Rattle.bank.proofs.Copies.{decoded_whole}
 use Rattle.bank.proofs.lent.LentBank.four.Goals as goal
 
-pub returns-then-at-units : goal.returns-then-at-units
-returns-then-at-units g c =
+pub returns : goal.returns
+returns g c =
     let units : c.used-units.result.now ≡ used c.args.self.now.memory.now = c.used-units.ensures in
     rw units at (decoded_whole _ g.U.Unit.byte_of g.U.Unit.unit_of g.met.U.Unit.back g.U.Unit.bytes_of g.met.U.Unit.bytes_each c.used-units.result.now c.args.address 4 c.args.address 4 (omega arith) (omega arith) refl c.decode_run.new.out c.decode_run.ensures)
