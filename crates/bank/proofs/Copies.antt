@@ -91,11 +91,3 @@ four_set (a ∷ b ∷ []) u v w x long = absurd (omega (arith, long))
 four_set (a ∷ b ∷ c ∷ []) u v w x long = absurd (omega (arith, long))
 four_set (a ∷ b ∷ c ∷ d ∷ []) u v w x long = refl
 four_set (a ∷ b ∷ c ∷ d ∷ e ∷ us) u v w x long = absurd (omega (arith, long))
-
-pub four_of : (bs : List ℕ) → length bs ≡ 4 → bs ≡ get_or bs 0 0 ∷ get_or bs 1 0 ∷ get_or bs 2 0 ∷ get_or bs 3 0 ∷ []
-four_of [] long = cc
-four_of (a ∷ []) long = absurd (omega (arith, long))
-four_of (a ∷ b ∷ []) long = absurd (omega (arith, long))
-four_of (a ∷ b ∷ c ∷ []) long = absurd (omega (arith, long))
-four_of (a ∷ b ∷ c ∷ d ∷ []) long = refl
-four_of (a ∷ b ∷ c ∷ d ∷ e ∷ bs) long = absurd (omega (arith, long))

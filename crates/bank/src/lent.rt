@@ -99,15 +99,15 @@ impl<'a, U: Unit> LentBank<'a, U> {
     }
 }
 
-// Fills four units with as many bytes.
-fn encode_four<U: Unit>(units: &mut [U], four: [u8; 4])
+// Fills four units with the bytes of a word.
+fn encode_word<U: Unit>(units: &mut [U], word: u32)
     requires { length units.old ≡ 4 }
-    ensures { units.new ≡ U.units_of four }
+    ensures { units.new ≡ U.units_of (word_bytes word) }
 {
-    units[0] = U::encode(four[0]);
-    units[1] = U::encode(four[1]);
-    units[2] = U::encode(four[2]);
-    units[3] = U::encode(four[3]);
+    units[0] = U::encode((word % 256) as u8);
+    units[1] = U::encode((word / 256 % 256) as u8);
+    units[2] = U::encode((word / 65536 % 256) as u8);
+    units[3] = U::encode((word / 16777216 % 256) as u8);
 }
 
 impl<U: Unit> Bank for LentBank<'_, U> {
@@ -176,11 +176,10 @@ impl<U: Unit> Bank for LentBank<'_, U> {
         ensures memory { Rewrites self.old.memory self.new.memory (write_run (used self.old.memory.now) address (U.units_of (word_bytes word))) }
     {
         let at = address as usize;
-        let four = word.to_le_bytes();
         if at + 4 <= units::count(self.memory.len()) {
-            encode_four(&mut self.memory[at..at + 4], four);
+            encode_word(&mut self.memory[at..at + 4], word);
         } else {
-            self.write_run(address, &four);
+            self.write_run(address, &word.to_le_bytes());
         }
     }
 }

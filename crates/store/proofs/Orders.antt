@@ -4,10 +4,12 @@ use Rattle.std.proofs.Common.{◌≡◌, ◌≢◌, ℕ, zero, suc, ◌+◌, ◌
 use Rattle.std.proofs.lemmas.Bool.{and_parts, cases_eq, lt-ltb, ltb-true, le-leb, leb-true}
 use Rattle.std.proofs.lemmas.List.{get_or-set_other, get_or-set_same, length-take-le}
 use Rattle.std.specs.List.{slice_get}
+use Rattle.std.specs.Option.{IfSome}
 use Rattle.rules.specs.declared.entry.Entry.{Entry}
 use Rattle.rules.specs.declared.entry.Entry.TheVariants.{Object, Control, Refined}
 use Rattle.rules.specs.declared.entry.Refinement.{Refinement}
 use Rattle.rules.specs.State.{State, Table, block_start, empty, entry, no_table, part, shown, shown_by, stack, table, takes}
+use Rattle.rules.specs.Operators.{calling}
 use Rattle.rules.specs.Tests.{current, has_room}
 use Rattle.rules.specs.Effects.{grown, leave, popped, sealing, with_stack, with_table}
 use Rattle.tables.specs.declared.directory.Directory.{Directory}
@@ -202,8 +204,29 @@ module _ (s : State) (q c : ℕ) (o : IsOrderly s) (now : current (stack s q) �
   unfolding are_contexts entry
   is_opened = (and_parts (is_object (slice_get (table s q).entries c)) (are_contexts (table s q).entries c (popped (stack s q))) (and_parts (ltb c (length (table s q).entries)) (is_object (slice_get (table s q).entries c) && are_contexts (table s q).entries c (popped (stack s q))) opened).1).0
 
+-- and so is the one from which it was called
+is_calling : (s : State) (q c : ℕ) → IsOrderly s → calling (stack s q) ≡ Some c → is_object (entry s q c) ≡ true
+unfolding entry are_contexts
+is_calling s q c o is = second (table s q).entries (length (table s q).entries) (stack s q) (o.contexts q) is
+  where
+    second : (es : List Entry) (n : ℕ) (ks : List ℕ) → are_contexts es n ks ≡ true → calling ks ≡ Some c → is_object (slice_get es c) ≡ true
+    second es n [] h e = cc
+    second es n (k ∷ []) h e = cc
+    second es n (k ∷ b ∷ ks) h e =
+        let same : b ≡ c = cc in
+        let below = and_parts (is_object (slice_get es k)) (are_contexts es k (b ∷ ks)) (and_parts (ltb k n) (is_object (slice_get es k) && are_contexts es k (b ∷ ks)) h).1 in
+        rw (← same) (and_parts (is_object (slice_get es b)) (are_contexts es b ks) (and_parts (ltb b k) (is_object (slice_get es b) && are_contexts es b ks) below.1).1).0
+
+pub opened_object : (s : State) (q : ℕ) (x : Option ℕ) → IsOrderly s → x ≡ current (stack s q) → IfSome x (λ c. is_object (entry s q c) ≡ true)
+opened_object s q (Some c) o e = is_opened s q c o (sym e)
+opened_object s q None o e = tt
+
+pub calling_object : (s : State) (q : ℕ) (x : Option ℕ) → IsOrderly s → x ≡ calling (stack s q) → IfSome x (λ c. is_object (entry s q c) ≡ true)
+calling_object s q (Some c) o e = is_calling s q c o (sym e)
+calling_object s q None o e = tt
+
 -- the current context ends
-module _ (s : State) (q c : ℕ) (o : IsOrderly s) (h : q < length s.tables) (h' : q < length s.stacks) (now : current (stack s q) ≡ Some c) where
+module _ (s : State) (q c : ℕ) (o : IsOrderly s) (now : current (stack s q) ≡ Some c) where
   abbrev es : List Entry
   es = (table s q).entries
 
@@ -221,9 +244,9 @@ module _ (s : State) (q c : ℕ) (o : IsOrderly s) (h : q < length s.tables) (h'
       go (Some (Refined r)) e = let wrong : false ≡ true = rw e at object in cc
       go None e = let wrong : false ≡ true = rw e at object in cc
 
-  pub orderly_left : IsOrderly (leave q c s)
+  pub orderly_left : q < length s.tables → q < length s.stacks → IsOrderly (leave q c s)
   unfolding leave
-  orderly_left =
+  orderly_left h h' =
       let x : Table = record { entries = take c es; claim = (shown s q c).base - 4 * (shown s q c).slots - block_start q } in
       let u : State = with_table q x s in
       orderly_but s (with_stack q (popped (stack s q)) u) q o (λ v ne. same_tables u q (popped (stack s q)) v ∙ other_tables s q x v ne) (λ v ne. other_stacks u q (popped (stack s q)) v ne ∙ same_stacks s q x v)

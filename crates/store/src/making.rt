@@ -3,7 +3,7 @@ ghost use Rattle.std.specs.Prelude.{◌≡◌, ◌+◌, ◌*◌, ◌<◌, true, 
 ghost use Rattle.rules.specs.Effects.{add, done, enter, leave, new_object, next_index, overwrite, put, first_slot};
 ghost use Rattle.rules.specs.Operators.{makes, stores};
 ghost use Rattle.bank.specs.Words.{word_bytes};
-ghost use Rattle.rules.specs.State.{encode, level as level_of, stack as stack_at, table as table_at, takes};
+ghost use Rattle.rules.specs.State.{encode, level as level_of, shown as shown_at, stack as stack_at, table as table_at, takes};
 ghost use Rattle.rules.specs.Tests.{current as current_of, has_room, refusal};
 ghost use Rattle.rules.specs.declared.fault.Reason.TheVariants.{NoRoom};
 ghost use Rattle.store.specs.Callers.{Names};
@@ -91,16 +91,18 @@ impl<B: Bank> Store<B> {
             return Err(refusal_of(Reason::NoRoom, task.get() as u32));
         };
         self.open(task, slots)?;
-        self.overwrite(start + 4 * slots.get() as u32 - 4, &word.to_le_bytes());
+        self.write_word(start + 4 * slots.get() as u32 - 4, word);
         Ok(())
     }
 
     // Closes the current context of a task.
-    pub(crate) fn close(&mut self, task: Below<9>, context: u32)
-        requires { current_of (stack_at self.old task) ≡ Some context }
-        ensures { self.new ≡ leave task context self.old }
+    pub(crate) fn close(&mut self, caller: &Caller)
+        requires opened { current_of (stack_at self.old caller.now.task) ≡ Some caller.now.context }
+        requires here { shown_at self.old caller.now.task caller.now.context ≡ caller.now.here }
+        ensures { self.new ≡ leave caller.now.task caller.now.context self.old }
     {
-        self.directory.leave(task.get() as u32, context);
+        self.directory
+            .leave(caller.task, caller.context, caller.here);
     }
 
     // Stores a descriptor in a slot.

@@ -226,7 +226,7 @@ impl<B: Bank> Store<B> {
         };
         let passed = self.source_or_null(&caller.operand(1, res))?;
         let place = Place {
-            by: self.shown(task, calling),
+            by: self.whole(task, calling),
             at: 0,
         };
         let target = caller.operand(2, 0);
@@ -239,7 +239,7 @@ impl<B: Bank> Store<B> {
             Reason::StoringRule,
         )?;
         self.put(place, word_or_null(&passed));
-        self.close(caller.table(), caller.context);
+        self.close(&caller);
         Ok(())
     }
 }

@@ -26,7 +26,7 @@ impl<B: Bank> Store<B> {
         let Some(context) = self.current(task) else {
             return Err(refusal_of(Reason::NoTask, task));
         };
-        let here = self.opened(task, context);
+        let here = self.whole(task, context);
         Ok(Caller {
             task,
             context,

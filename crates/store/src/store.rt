@@ -1,11 +1,12 @@
 // A store: its directory, and the bank that holds the bytes of its objects.
-ghost use Rattle.std.specs.Prelude.{◌≡◌, ◌+◌, ◌<◌, OnSome, Some, length, nat_le};
+ghost use Rattle.std.specs.Prelude.{◌≡◌, ◌+◌, ◌<◌, IfSome, OnSome, Some, length, nat_le, true};
 ghost use Rattle.bank.specs.Runs.{read_run};
 ghost use Rattle.rules.specs.Effects.{overwrite, put};
 ghost use Rattle.rules.specs.Operators.{calling as calling_of};
-ghost use Rattle.bank.specs.Words.{word_at};
+ghost use Rattle.bank.specs.Words.{word_at, word_bytes};
 ghost use Rattle.rules.specs.State.{empty, entry as entry_at, level as level_of, shown as shown_at, stack as stack_at};
 ghost use Rattle.rules.specs.Tests.{current as current_of};
+ghost use Rattle.store.specs.Orderly.{is_object};
 
 use bank::Bank;
 use rules::entry::Entry;
@@ -90,31 +91,33 @@ impl<B: Bank> Store<B> {
         self.directory.level(task)
     }
 
-    // The current context of a task.
+    // The current context of a task, which is a storage object.
     pub(crate) fn current(&self, task: u32) -> Option<u32>
         ensures value { result ≡ current_of (stack_at self.now task) }
         ensures bound { OnSome result (task < 9) }
+        ensures object { IfSome result (λ c. is_object (entry_at self.now task c) ≡ true) }
     {
         self.directory.current(task)
     }
 
-    // What the current context of a task shows. It is a storage object.
-    #[tactic(auto, unfolding(rules::specs::State::shown))]
-    pub(crate) fn opened(&self, task: u32, context: u32) -> Shown
-        requires { current_of (stack_at self.now task) ≡ Some context }
-        ensures { result ≡ shown_at self.now task context }
-    {
-        let Some(Entry::Object(object)) = self.directory.entry(task, context) else {
-            unreachable!()
-        };
-        Shown::whole(task, context, object)
-    }
-
-    // The context from which the current one of a task was called.
+    // The context from which the current one of a task was called, which is a storage object too.
     pub(crate) fn calling(&self, task: u32) -> Option<u32>
-        ensures { result ≡ calling_of (stack_at self.now task) }
+        ensures value { result ≡ calling_of (stack_at self.now task) }
+        ensures object { IfSome result (λ c. is_object (entry_at self.now task c) ≡ true) }
     {
         self.directory.calling(task)
+    }
+
+    // What an entry shows that is a storage object.
+    #[tactic(auto, unfolding(rules::specs::State::shown))]
+    pub(crate) fn whole(&self, table: u32, index: u32) -> Shown
+        requires { is_object (entry_at self.now table index) ≡ true }
+        ensures { result ≡ shown_at self.now table index }
+    {
+        let Some(Entry::Object(object)) = self.entry(table, index) else {
+            unreachable!()
+        };
+        Shown::whole(table, index, object)
     }
 
     // The word at an address.
@@ -139,11 +142,19 @@ impl<B: Bank> Store<B> {
         self.bank.write_run(address, source);
     }
 
+    // Replaces the word at an address.
+    #[tactic(auto, unfolding(rules::specs::Effects::overwrite))]
+    pub(crate) fn write_word(&mut self, address: u32, word: u32)
+        ensures { self.new ≡ overwrite address (word_bytes word) self.old }
+    {
+        self.bank.write_word(address, word);
+    }
+
     // Puts a word into a slot.
-    #[tactic(auto, unfolding(rules::specs::Effects::put, rules::specs::Effects::overwrite))]
+    #[tactic(auto, unfolding(rules::specs::Effects::put))]
     pub(crate) fn put(&mut self, place: Place, word: u32)
         ensures { self.new ≡ put place word self.old }
     {
-        self.bank.write_word(place.by.slot_at(place.at), word);
+        self.write_word(place.by.slot_at(place.at), word);
     }
 }

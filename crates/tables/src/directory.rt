@@ -134,16 +134,16 @@ impl Directory {
         }
     }
 
-    // Closes a context of a task: the entries from it on end, and the bytes from its first one on are free.
+    // Closes a context of a task, given what it shows: the entries from it on end, and the bytes from its first one on are free.
     #[tactic(auto, unfolding(rules::specs::State::stack, rules::specs::State::table, rules::specs::Effects::with_stack, rules::specs::Effects::with_table, rules::specs::Effects::leave, crate::specs::Live::can_leave))]
-    pub fn leave(&mut self, task: u32, context: u32)
-        ensures { (l : List ℕ) → state_of self.new l ≡ (if can_leave (state_of self.old l) task context then leaving task context (state_of self.old l) else state_of self.old l) }
+    pub fn leave(&mut self, task: u32, context: u32, object: Shown)
+        ensures { (l : List ℕ) → shown_at (state_of self.old l) task context ≡ object → state_of self.new l ≡ (if can_leave (state_of self.old l) task context then leaving task context (state_of self.old l) else state_of self.old l) }
     {
         let at = task as usize;
         if at >= self.tables.len() {
             return;
         }
-        let claim = bytes_before(self.shown(task, context), BLOCK * task);
+        let claim = bytes_before(object, BLOCK * task);
         if claim <= BLOCK {
             self.tables[at].cut(context as usize, claim);
             self.stacks[at].pop();

@@ -8,10 +8,10 @@ pub returns-then-at-count : goal.returns-then-at-count
 unfolding word_bytes
 returns-then-at-count g c =
     record {
-      means = encoded_means _ g.U.Unit.byte_of g.U.Unit.unit_of g.met.U.Unit.back g.U.Unit.bytes_of g.met.U.Unit.bytes_each g.U.Unit.units_of g.met.U.Unit.units_each c.args.self.now.memory.now (word_bytes c.args.word) (word_bytes-small c.args.word) c.args.address c.count.result c.args.address 4 _ c.count.ensures (omega arith) (omega arith) (omega arith) c.encode_four.new.units (search rules);
+      means = encoded_means _ g.U.Unit.byte_of g.U.Unit.unit_of g.met.U.Unit.back g.U.Unit.bytes_of g.met.U.Unit.bytes_each g.U.Unit.units_of g.met.U.Unit.units_each c.args.self.now.memory.now (word_bytes c.args.word) (word_bytes-small c.args.word) c.args.address c.count.result c.args.address 4 _ c.count.ensures (omega arith) (omega arith) (omega arith) c.encode_word.new.units (search rules);
       memory = record {
-        coded = encoded_in _ g.U.Unit.byte_of g.U.Unit.unit_of g.met.U.Unit.back g.U.Unit.bytes_of g.met.U.Unit.bytes_each g.U.Unit.units_of g.met.U.Unit.units_each c.args.self.now.memory.now (word_bytes c.args.word) (word_bytes-small c.args.word) c.args.address c.count.result c.args.address 4 _ c.count.ensures (omega arith) (omega arith) (omega arith) c.encode_four.new.units (search rules);
+        coded = encoded_in _ g.U.Unit.byte_of g.U.Unit.unit_of g.met.U.Unit.back g.U.Unit.bytes_of g.met.U.Unit.bytes_each g.U.Unit.units_of g.met.U.Unit.units_each c.args.self.now.memory.now (word_bytes c.args.word) (word_bytes-small c.args.word) c.args.address c.count.result c.args.address 4 _ c.count.ensures (omega arith) (omega arith) (omega arith) c.encode_word.new.units (search rules);
         lent = search rules;
-        rest = encoded_beside _ g.U.Unit.byte_of g.U.Unit.unit_of g.met.U.Unit.back g.U.Unit.bytes_of g.met.U.Unit.bytes_each g.U.Unit.units_of g.met.U.Unit.units_each c.args.self.now.memory.now (word_bytes c.args.word) (word_bytes-small c.args.word) c.args.address c.count.result c.args.address 4 _ c.count.ensures (omega arith) (omega arith) (omega arith) c.encode_four.new.units (search rules);
+        rest = encoded_beside _ g.U.Unit.byte_of g.U.Unit.unit_of g.met.U.Unit.back g.U.Unit.bytes_of g.met.U.Unit.bytes_each g.U.Unit.units_of g.met.U.Unit.units_each c.args.self.now.memory.now (word_bytes c.args.word) (word_bytes-small c.args.word) c.args.address c.count.result c.args.address 4 _ c.count.ensures (omega arith) (omega arith) (omega arith) c.encode_word.new.units (search rules);
       };
     }
