@@ -22,8 +22,8 @@ pub struct TypeControl {
 // A part of a storage object: a run of its data bytes and a run of its slots.
 #[derive(Clone, Copy, Debug, PartialEq, Eq)]
 pub struct Refinement {
-    pub table: u8,
-    pub index: u8,
+    pub table: u16,
+    pub index: u16,
     pub byte: u16,
     pub bytes: u16,
     pub slot: u16,

@@ -160,8 +160,8 @@ impl<B: Bank> Store<B> {
         let level = self.level(caller.task);
         caller.demand(level <= place.by.level as u32, Reason::StoringRule)?;
         let part = Refinement {
-            table: shown.owner as u8,
-            index: shown.object as u8,
+            table: shown.owner as u16,
+            index: shown.object as u16,
             byte: shown.byte + runs.byte as u16,
             bytes: runs.bytes as u16,
             slot: shown.slot + runs.slot as u16,

@@ -71,7 +71,7 @@ impl<B: Bank> Store<B> {
     pub(crate) fn shown(&self, table: u32, index: u32) -> Shown
         ensures value { result ≡ shown_at self.now table index }
         ensures runs { (result.byte + result.bytes < 65536) × (result.slot + result.slots < 65536) }
-        ensures named { (result.owner < 256) × (result.object < 256) }
+        ensures named { (result.owner < 65536) × (result.object < 65536) }
     {
         self.directory.shown(table, index)
     }

@@ -50,7 +50,7 @@ impl Directory {
     #[tactic(auto, using(std::proofs::lemmas::Option::get_or_from_slice_get, crate::proofs::States::at_none), unfolding(rules::specs::State::shown))]
     pub fn shown(&self, table: u32, index: u32) -> Shown
         ensures value { (l : List ℕ) → result ≡ shown_at (state_of self.now l) table index }
-        ensures named { (result.owner < 256) × (result.object < 256) }
+        ensures named { (result.owner < 65536) × (result.object < 65536) }
     {
         match self.entry(table, index) {
             Some(entry) => self.shows(table, index, entry),
@@ -62,7 +62,7 @@ impl Directory {
     #[tactic(auto, using(std::proofs::lemmas::Option::get_or_from_slice_get, crate::proofs::States::at_none))]
     pub fn shows(&self, table: u32, index: u32, entry: Entry) -> Shown
         ensures value { (l : List ℕ) → result ≡ shown_by (state_of self.now l) table index (Some entry) }
-        ensures named { table < 256 → index < 256 → (result.owner < 256) × (result.object < 256) }
+        ensures named { table < 65536 → index < 65536 → (result.owner < 65536) × (result.object < 65536) }
     {
         match entry {
             Entry::Object(o) => Shown::whole(table, index, o),
