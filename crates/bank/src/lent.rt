@@ -74,6 +74,7 @@ impl<'a, U: Unit> LentBank<'a, U> {
     }
 
     // The four bytes from an address on.
+    #[inline(always)]
     fn four(&self, address: u32) -> [u8; 4]
         ensures { result ≡ read_run (U.bytes_of (used self.now.memory.now)) address 4 }
     {
@@ -100,6 +101,7 @@ impl<'a, U: Unit> LentBank<'a, U> {
 }
 
 // Fills four units with the bytes of a word.
+#[inline(always)]
 fn encode_word<U: Unit>(units: &mut [U], word: u32)
     requires { length units.old ≡ 4 }
     ensures { units.new ≡ U.units_of (word_bytes word) }
@@ -113,10 +115,12 @@ fn encode_word<U: Unit>(units: &mut [U], word: u32)
 impl<U: Unit> Bank for LentBank<'_, U> {
     ghost bytes = { λ s. U.bytes_of (used s.memory.now) };
 
+    #[inline(always)]
     fn size(&self) -> u32 {
         units::count(self.memory.len()) as u32
     }
 
+    #[inline(always)]
     fn read(&self, address: u32) -> u8 {
         units::used(self.memory)
             .get(address as usize)
@@ -165,11 +169,13 @@ impl<U: Unit> Bank for LentBank<'_, U> {
         self.memory[from..from + inside].fill(U::encode(0));
     }
 
+    #[inline(always)]
     #[tactic(auto, unfolding(crate::specs::Words::word_at, crate::specs::Runs::read_run))]
     fn read_word(&self, address: u32) -> u32 {
         u32::from_le_bytes(self.four(address))
     }
 
+    #[inline(always)]
     #[tactic(auto, unfolding(crate::specs::Words::word_bytes))]
     fn write_word(&mut self, address: u32, word: u32)
         ensures means { U.bytes_of (used self.new.memory.now) ≡ write_run (U.bytes_of (used self.old.memory.now)) address (word_bytes word) }

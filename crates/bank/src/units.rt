@@ -5,6 +5,7 @@ ghost use Rattle.bank.specs.Units.{used};
 const MOST: usize = 65536;
 
 // How many units a bank uses of those lent to it.
+#[inline(always)]
 pub(crate) fn count(lent: usize) -> usize
     ensures { result ≡ min lent 65536 }
 {
@@ -12,6 +13,7 @@ pub(crate) fn count(lent: usize) -> usize
 }
 
 // The units of those lent that a bank uses.
+#[inline(always)]
 pub(crate) fn used<T>(lent: &[T]) -> &[T]
     ensures { result.now ≡ used lent.now }
 {
@@ -20,6 +22,7 @@ pub(crate) fn used<T>(lent: &[T]) -> &[T]
 
 // Where a run begins inside a bank, at its address or at the end, and how many of its bytes lie inside. A pair and no `Range`, of
 // which only the length is wanted where the bytes outside are cut off.
+#[inline(always)]
 pub(crate) fn clip(size: usize, address: u32, wanted: usize) -> (usize, usize)
     ensures from { result.0 ≡ min address size }
     ensures inside { result.1 ≡ min wanted (size - min address size) }

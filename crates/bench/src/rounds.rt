@@ -23,43 +23,58 @@ pub(crate) fn sum<B: Bank + Drop>(
     let mut store = Store::new(bank);
     load(&mut store)?;
     let on = &mut store;
-    let Numbers { task, zero } = numbers;
+    let zero = numbers.zero;
     match work {
-        Work::Copy => rounds(on, count, |store, _| store.copy(task, 16, 32).map(|()| 0)),
-        Work::CopyEnv => rounds(on, count, |store, _| store.copy(task, 1, 9).map(|()| 0)),
-        Work::Null => rounds(on, count, |store, _| store.null(task, 36).map(|()| 0)),
-        Work::Restrict => rounds(on, count, |store, _| {
+        Work::Copy => rounds(
+            on,
+            count,
+            numbers,
+            |store, _, task| store.copy(task, 16, 32).map(|()| 0),
+        ),
+        Work::CopyEnv => rounds(
+            on,
+            count,
+            numbers,
+            |store, _, task| store.copy(task, 1, 9).map(|()| 0),
+        ),
+        Work::Null => rounds(
+            on,
+            count,
+            numbers,
+            |store, _, task| store.null(task, 36).map(|()| 0),
+        ),
+        Work::Restrict => rounds(on, count, numbers, |store, _, task| {
             store.restrict(task, 16, 32, zero | 35).map(|()| 0)
         }),
-        Work::Read(length) => rounds(on, count, |store, buffer| {
+        Work::Read(length) => rounds(on, count, numbers, |store, buffer, task| {
             let run = &mut buffer[..length.min(LARGEST)];
             store.read(task, 16, zero, run).map(|()| 0)
         }),
-        Work::Write(length) => rounds(on, count, |store, buffer| {
+        Work::Write(length) => rounds(on, count, numbers, |store, buffer, task| {
             let run = &buffer[..length.min(LARGEST)];
             store.write(task, 16, zero, run).map(|()| 0)
         }),
-        Work::See => rounds(on, count, |store, _| {
+        Work::See => rounds(on, count, numbers, |store, _, task| {
             store.see(task, 16).map(|seen| seen.is_some() as u64)
         }),
-        Work::Look => rounds(on, count, |store, _| {
+        Work::Look => rounds(on, count, numbers, |store, _, task| {
             store.look(task, 16).map(|looked| looked.1 as u64)
         }),
-        Work::CallReturn => rounds(on, count, |store, _| {
+        Work::CallReturn => rounds(on, count, numbers, |store, _, task| {
             store.call(task, 16, zero | 4)?;
             store.return_result(task, 4).map(|()| 0)
         }),
-        Work::CallCreateReturn => rounds(on, count, |store, _| {
+        Work::CallCreateReturn => rounds(on, count, numbers, |store, _, task| {
             store.call(task, 16, zero | 4)?;
             store.create(task, 4, zero | 8, zero | 1)?;
             store.return_result(task, 8).map(|()| 0)
         }),
-        Work::CallRefineReturn => rounds(on, count, |store, _| {
+        Work::CallRefineReturn => rounds(on, count, numbers, |store, _, task| {
             store.call(task, 16, zero | 4)?;
             store.refine(task, 0, 4, zero | 4, zero | 4, zero | 1, zero | 2)?;
             store.return_result(task, 8).map(|()| 0)
         }),
-        Work::Fault => rounds(on, count, |store, buffer| {
+        Work::Fault => rounds(on, count, numbers, |store, buffer, task| {
             let refused = store.read(task, 16, zero | 1024, &mut buffer[..1]).is_err();
             Ok(refused as u64)
         }),
@@ -82,11 +97,13 @@ fn load<B: Bank>(store: &mut Store<B>) -> Result<(), Fault> {
     store.seal()
 }
 
-// Makes rounds of one step, and sums what each answers and a byte of the buffer. The store is of any type, since the bound of a
-// closure cannot name a store over any bank.
-fn rounds<S, F: Fn(&mut S, &mut [u8; LARGEST]) -> Result<u64, Fault>>(
+// Makes rounds of one step by the task, and sums what each answers and a byte of the buffer. The task's number is made anew in
+// each round, so that the compiler cannot make the step once for all. The store is of any type, since the bound of a closure
+// cannot name a store over any bank.
+fn rounds<S, F: Fn(&mut S, &mut [u8; LARGEST], u32) -> Result<u64, Fault>>(
     store: &mut S,
     count: u32,
+    numbers: Numbers,
     step: F,
 ) -> Result<u64, Fault>
     requires { F.IsAlwaysCallable step }
@@ -95,7 +112,8 @@ fn rounds<S, F: Fn(&mut S, &mut [u8; LARGEST]) -> Result<u64, Fault>>(
     let mut sum = 0u64;
     // A range: each round changes the buffer and counts.
     for i in 0..count {
-        let answered = step(store, &mut buffer)?;
+        let task = numbers.task | (i & numbers.zero);
+        let answered = step(store, &mut buffer, task)?;
         let byte = buffer[i as usize % LARGEST];
         sum = sum
             .wrapping_mul(31)

@@ -7,6 +7,7 @@ use crate::kind::Kind;
 
 impl Entry {
     // The type of an entry.
+    #[inline(always)]
     pub fn kind(&self) -> Kind
         ensures { result ≡ kind_of self.now }
     {
@@ -17,6 +18,7 @@ impl Entry {
         }
     }
 
+    #[inline(always)]
     pub fn level(&self) -> u8
         ensures { result ≡ level_of self.now }
     {
@@ -28,6 +30,7 @@ impl Entry {
     }
 
     // How many bytes of its block an entry takes.
+    #[inline(always)]
     pub fn takes(&self) -> u32
         ensures { result ≡ takes self.now }
     {

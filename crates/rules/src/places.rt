@@ -7,6 +7,7 @@ use crate::shown::Shown;
 
 impl Shown {
     // What shows nothing. No Option: without slots and bytes, every test of a slot or a byte refuses it as the rules say.
+    #[inline(always)]
     pub fn nothing() -> Shown
         ensures { result ≡ nothing }
     {
@@ -23,6 +24,7 @@ impl Shown {
     }
 
     // A storage object whole.
+    #[inline(always)]
     pub fn whole(table: u32, index: u32, object: Storage) -> Shown
         ensures { result ≡ whole table index object }
     {
@@ -39,6 +41,7 @@ impl Shown {
     }
 
     // The part of a storage object that a refinement shows.
+    #[inline(always)]
     pub fn part(refinement: Refinement, object: Storage) -> Shown
         ensures { result ≡ part refinement (Some (Entry.Object object)) }
     {
@@ -55,6 +58,7 @@ impl Shown {
     }
 
     // Where a slot that is shown begins.
+    #[inline(always)]
     pub fn slot_at(&self, slot: u16) -> u32
         ensures { result ≡ slot_at self.now slot }
     {
@@ -63,6 +67,7 @@ impl Shown {
     }
 
     // Where a data byte that is shown lies.
+    #[inline(always)]
     pub fn byte_at(&self, offset: u16) -> u32
         ensures { result ≡ byte_at self.now offset }
     {

@@ -7,6 +7,7 @@ use rules::fault::{Fault, Reason};
 use rules::shown::Shown;
 
 // A fault of no operand.
+#[cold]
 pub(crate) fn refusal_of(reason: Reason, task: u32) -> Fault
     ensures { result ≡ refusal reason task }
 {
@@ -19,6 +20,7 @@ pub(crate) fn refusal_of(reason: Reason, task: u32) -> Fault
 }
 
 // A test, or the fault of its failing.
+#[inline(always)]
 pub(crate) fn demand(holds: bool, reason: Reason, task: u32) -> Result<(), Fault>
     ensures { result ≡ check holds (refusal reason task) }
 {
@@ -56,6 +58,7 @@ impl Caller {
         Below::low(self.task)
     }
 
+    #[inline(always)]
     pub(crate) fn operand(&self, place: u8, selector: u16) -> Operand
         ensures { result ≡ record { task = self.now.task; context = self.now.context; here = self.now.here; place = place; selector = selector } }
     {
@@ -69,6 +72,7 @@ impl Caller {
     }
 
     // A fault of no operand.
+    #[inline(always)]
     pub(crate) fn refusal(&self, reason: Reason) -> Fault
         ensures { result ≡ refusal reason self.now.task }
     {
@@ -76,6 +80,7 @@ impl Caller {
     }
 
     // A test, or the fault of its failing.
+    #[inline(always)]
     pub(crate) fn demand(&self, holds: bool, reason: Reason) -> Result<(), Fault>
         ensures { result ≡ check holds (refusal reason self.now.task) }
     {
@@ -85,6 +90,7 @@ impl Caller {
 
 impl Operand {
     // A test, or the fault of its failing at this operand.
+    #[inline(always)]
     pub(crate) fn demand(&self, holds: bool, reason: Reason) -> Result<(), Fault>
         ensures { result ≡ check holds (refusal_at reason self.now.task self.now.place self.now.selector) }
     {
@@ -96,6 +102,8 @@ impl Operand {
     }
 
     // A fault of this operand.
+    #[inline(always)]
+    #[cold]
     pub(crate) fn refusal(&self, reason: Reason) -> Fault
         ensures { result ≡ refusal_at reason self.now.task self.now.place self.now.selector }
     {

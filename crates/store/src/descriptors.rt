@@ -17,6 +17,7 @@ use rules::shown::Place;
 
 impl<B: Bank> Store<B> {
     // A source that may be null.
+    #[inline(always)]
     #[tactic(auto, unfolding(rules::specs::Tests::source_or_null))]
     pub(crate) fn source_or_null(&self, operand: &Operand) -> Result<Option<Found>, Fault>
         requires { Stands self.now operand.now }
@@ -28,6 +29,7 @@ impl<B: Bank> Store<B> {
     }
 
     // A source that may not.
+    #[inline(always)]
     #[tactic(auto, unfolding(rules::specs::Tests::source))]
     pub(crate) fn source(&self, operand: &Operand) -> Result<Found, Fault>
         requires { Stands self.now operand.now }
@@ -42,6 +44,7 @@ impl<B: Bank> Store<B> {
     }
 
     // A source whose descriptor has a right.
+    #[inline(always)]
     #[tactic(auto, unfolding(rules::specs::Tests::source_with))]
     pub(crate) fn source_with(&self, right: Right, operand: &Operand) -> Result<Found, Fault>
         requires { Stands self.now operand.now }
@@ -55,6 +58,7 @@ impl<B: Bank> Store<B> {
     }
 
     // A source that names a type control and has a right.
+    #[inline(always)]
     #[tactic(auto, unfolding(rules::specs::Tests::control))]
     pub(crate) fn type_control(&self, right: Right, operand: &Operand) -> Result<TypeControl, Fault>
         requires { Stands self.now operand.now }
@@ -67,6 +71,7 @@ impl<B: Bank> Store<B> {
     }
 
     // A slot that may be overwritten.
+    #[inline(always)]
     #[tactic(auto, unfolding(rules::specs::Tests::destination))]
     pub(crate) fn destination(&self, operand: &Operand) -> Result<Place, Fault>
         requires { Stands self.now operand.now }

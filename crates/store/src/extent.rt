@@ -15,6 +15,7 @@ pub(crate) struct Extent {
 }
 
 impl Extent {
+    #[inline(always)]
     pub(crate) fn new(bytes: u32, slots: u32) -> Option<Extent>
         ensures { result ≡ (if nat_le bytes 2048 && nat_le slots 512 then Some (record { bytes = bytes; slots = slots }) else None) }
     {
@@ -25,6 +26,7 @@ impl Extent {
     }
 
     // The base of an object whose bytes begin here: its slots come first.
+    #[inline(always)]
     pub(crate) fn base(&self, start: u32) -> u16
         requires { start ≤ 18432 }
         ensures { result ≡ start + 4 * self.now.slots }
@@ -33,6 +35,7 @@ impl Extent {
     }
 
     // How many bytes an object takes, with its slots.
+    #[inline(always)]
     pub(crate) fn takes(&self) -> u32
         ensures { result ≡ 4 * self.now.slots + self.now.bytes }
     {
@@ -59,6 +62,7 @@ impl Model for ContextSlots {
 }
 
 impl ContextSlots {
+    #[inline(always)]
     pub(crate) fn new(number: u32) -> Option<ContextSlots>
         ensures { result ≡ (if nat_le 4 number && nat_le number 64 then Some number else None) }
     {
@@ -71,6 +75,7 @@ impl ContextSlots {
         }
     }
 
+    #[inline(always)]
     pub(crate) fn get(self) -> u16
         ensures value { result ≡ self }
         ensures low { 4 ≤ result }
@@ -80,6 +85,7 @@ impl ContextSlots {
     }
 
     // A context has no data bytes.
+    #[inline(always)]
     pub(crate) fn extent(self) -> Extent
         ensures { result ≡ record { bytes = 0; slots = self } }
     {

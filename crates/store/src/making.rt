@@ -24,6 +24,7 @@ use rules::shown::{Descriptor, Place};
 
 impl<B: Bank> Store<B> {
     // Makes a storage object in a table, all its bytes 0, and answers its index.
+    #[inline(always)]
     pub(crate) fn make(
         &mut self,
         table: Below<9>,
@@ -64,6 +65,7 @@ impl<B: Bank> Store<B> {
     }
 
     // Makes a context of a task at the next level, opens it and answers its index.
+    #[inline(always)]
     pub(crate) fn open(&mut self, task: Below<9>, slots: ContextSlots) -> Result<Below<64>, Fault>
         requires { level_of self.old task < 8 }
         ensures value { result ≡ if_room self.old task (4 * slots) (Ok (next_index self.old task)) (Err (refusal NoRoom task)) }
@@ -77,6 +79,7 @@ impl<B: Bank> Store<B> {
     }
 
     // Opens a context with a word in its slot 0.
+    #[inline(always)]
     pub(crate) fn open_with(
         &mut self,
         task: Below<9>,
@@ -96,6 +99,7 @@ impl<B: Bank> Store<B> {
     }
 
     // Closes the current context of a task.
+    #[inline(always)]
     pub(crate) fn close(&mut self, caller: &Caller)
         requires opened { current_of (stack_at self.old caller.now.task) ≡ Some caller.now.context }
         requires here { shown_at self.old caller.now.task caller.now.context ≡ caller.now.here }
@@ -106,6 +110,7 @@ impl<B: Bank> Store<B> {
     }
 
     // Stores a descriptor in a slot.
+    #[inline(always)]
     #[tactic(auto, unfolding(rules::specs::Operators::stores))]
     pub(crate) fn store(
         &mut self,
@@ -122,6 +127,7 @@ impl<B: Bank> Store<B> {
     }
 
     // Makes a storage object of a task at its level, named with all rights in a slot.
+    #[inline(always)]
     #[tactic(auto, unfolding(rules::specs::Operators::makes))]
     pub(crate) fn make_named(
         &mut self,

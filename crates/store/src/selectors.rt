@@ -14,6 +14,7 @@ use rules::shown::{Place, Shown};
 
 impl<B: Bank> Store<B> {
     // A task, with its current context, if its operators may come.
+    #[inline(always)]
     #[tactic(auto, unfolding(rules::specs::Tests::operator))]
     pub(crate) fn caller(&self, task: u32) -> Result<Caller, Fault>
         ensures ok { IfOk result (λ c. (c.task ≡ task) × (operator self.now task ≡ Ok c.context)) }
@@ -34,6 +35,7 @@ impl<B: Bank> Store<B> {
         })
     }
 
+    #[inline(always)]
     #[tactic(auto, unfolding(rules::specs::Tests::environment))]
     fn environment(&self, right: Right, operand: &Operand) -> Result<Shown, Fault>
         requires { Stands self.now operand.now }
@@ -51,6 +53,7 @@ impl<B: Bank> Store<B> {
     }
 
     // The slot that an operand names, where its environment gives a right.
+    #[inline(always)]
     #[tactic(auto, unfolding(rules::specs::Tests::resolve, rules::specs::Tests::environment))]
     pub(crate) fn resolve(&self, right: Right, operand: &Operand) -> Result<Place, Fault>
         requires { Stands self.now operand.now }

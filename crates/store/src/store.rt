@@ -60,6 +60,7 @@ impl<B: Bank> Store<B> {
         self.directory.is_sealed()
     }
 
+    #[inline(always)]
     pub(crate) fn entry(&self, table: u32, index: u32) -> Option<Entry>
         ensures value { result ≡ entry_at self.now table index }
         ensures bound { OnSome result ((table < 9) × (index < 64)) }
@@ -77,6 +78,7 @@ impl<B: Bank> Store<B> {
     }
 
     // What an entry that stands here shows.
+    #[inline(always)]
     #[tactic(auto, unfolding(rules::specs::State::shown))]
     pub(crate) fn shows(&self, table: u32, index: u32, entry: Entry) -> Shown
         requires { entry_at self.now table index ≡ Some entry }
@@ -92,6 +94,7 @@ impl<B: Bank> Store<B> {
     }
 
     // The current context of a task, which is a storage object.
+    #[inline(always)]
     pub(crate) fn current(&self, task: u32) -> Option<u32>
         ensures value { result ≡ current_of (stack_at self.now task) }
         ensures bound { OnSome result (task < 9) }
@@ -101,6 +104,7 @@ impl<B: Bank> Store<B> {
     }
 
     // The context from which the current one of a task was called, which is a storage object too.
+    #[inline(always)]
     pub(crate) fn calling(&self, task: u32) -> Option<u32>
         ensures value { result ≡ calling_of (stack_at self.now task) }
         ensures object { IfSome result (λ c. is_object (entry_at self.now task c) ≡ true) }
@@ -109,6 +113,7 @@ impl<B: Bank> Store<B> {
     }
 
     // What an entry shows that is a storage object.
+    #[inline(always)]
     #[tactic(auto, unfolding(rules::specs::State::shown))]
     pub(crate) fn whole(&self, table: u32, index: u32) -> Shown
         requires { is_object (entry_at self.now table index) ≡ true }
@@ -121,6 +126,7 @@ impl<B: Bank> Store<B> {
     }
 
     // The word at an address.
+    #[inline(always)]
     pub(crate) fn word_at(&self, address: u32) -> u32
         ensures { result ≡ word_at self.now.bytes address }
     {
@@ -143,6 +149,7 @@ impl<B: Bank> Store<B> {
     }
 
     // Replaces the word at an address.
+    #[inline(always)]
     #[tactic(auto, unfolding(rules::specs::Effects::overwrite))]
     pub(crate) fn write_word(&mut self, address: u32, word: u32)
         ensures { self.new ≡ overwrite address (word_bytes word) self.old }
@@ -151,6 +158,7 @@ impl<B: Bank> Store<B> {
     }
 
     // Puts a word into a slot.
+    #[inline(always)]
     #[tactic(auto, unfolding(rules::specs::Effects::put))]
     pub(crate) fn put(&mut self, place: Place, word: u32)
         ensures { self.new ≡ put place word self.old }

@@ -21,6 +21,7 @@ pub(crate) struct Found {
 
 impl Found {
     // Whether the descriptor has a right.
+    #[inline(always)]
     pub(crate) fn gives(&self, right: Right) -> bool
         ensures { result ≡ has (weight right) self.now.descriptor.rights }
     {
@@ -37,6 +38,7 @@ pub(crate) fn word_or_null(found: &Option<Found>) -> u32
 
 impl<B: Bank> Store<B> {
     // What a word names.
+    #[inline(always)]
     #[tactic(auto, unfolding(rules::specs::State::named))]
     pub(crate) fn named(&self, word: u32) -> Option<Found>
         ensures value { named_by self.now word ≡ descriptor_of result }
@@ -51,6 +53,7 @@ impl<B: Bank> Store<B> {
     }
 
     // What the word in a slot names.
+    #[inline(always)]
     #[tactic(auto, unfolding(rules::specs::State::held))]
     pub(crate) fn held(&self, place: Place) -> Option<Found>
         ensures value { named_by self.now (held_at self.now place) ≡ descriptor_of result }
@@ -60,6 +63,7 @@ impl<B: Bank> Store<B> {
     }
 
     // What a descriptor shows.
+    #[inline(always)]
     pub(crate) fn shown_of(&self, found: &Found) -> Shown
         requires { Names self.now found.now }
         ensures { result ≡ shown_at self.now found.now.descriptor.table found.now.descriptor.index }
@@ -80,6 +84,7 @@ impl<B: Bank> Store<B> {
     }
 
     // The level of what a descriptor names, 0 for null.
+    #[inline(always)]
     pub(crate) fn level_named(&self, found: &Option<Found>) -> u8
         requires { IfSome found.now (λ f. Names self.now f) }
         ensures { result ≡ level_named self.now (descriptor_of found.now) }

@@ -36,6 +36,7 @@ impl<T: Copy, const N: usize> BoundedList<T, N> {
         }
     }
 
+    #[inline(always)]
     pub fn len(&self) -> usize
         ensures value { result ≡ length self.now }
         ensures within { result ≤ N }
@@ -43,6 +44,7 @@ impl<T: Copy, const N: usize> BoundedList<T, N> {
         self.count // of the items, not of the places
     }
 
+    #[inline(always)]
     pub fn get(&self, index: usize) -> Option<T>
         ensures value { result ≡ slice_get self.now index }
         ensures within { OnSome result (index < N) }
@@ -51,12 +53,14 @@ impl<T: Copy, const N: usize> BoundedList<T, N> {
     }
 
     // The item that stands so many places before the last one.
+    #[inline(always)]
     pub fn from_end(&self, places: usize) -> Option<T>
         ensures { result ≡ slice_get (reverse self.now) places }
     {
         self.items[..self.count].iter().rev().nth(places).copied()
     }
 
+    #[inline(always)]
     pub fn push(&mut self, item: T)
         requires { length self.old < N }
         ensures { self.new ≡ self.old ++ item ∷ [] }
@@ -66,6 +70,7 @@ impl<T: Copy, const N: usize> BoundedList<T, N> {
     }
 
     // Keeps the first items.
+    #[inline(always)]
     pub fn truncate(&mut self, count: usize)
         ensures { self.new ≡ take count self.old }
     {

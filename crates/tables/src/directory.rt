@@ -38,6 +38,7 @@ impl Directory {
         }
     }
 
+    #[inline(always)]
     #[tactic(auto, using(std::proofs::lemmas::Option::get_or_from_slice_get, crate::proofs::States::at_none), unfolding(rules::specs::State::entry, rules::specs::State::table))]
     pub fn entry(&self, table: u32, index: u32) -> Option<Entry>
         ensures value { (l : List ℕ) → result ≡ entry_at (state_of self.now l) table index }
@@ -59,6 +60,7 @@ impl Directory {
     }
 
     // What an entry that stands here shows.
+    #[inline(always)]
     #[tactic(auto, using(std::proofs::lemmas::Option::get_or_from_slice_get, crate::proofs::States::at_none))]
     pub fn shows(&self, table: u32, index: u32, entry: Entry) -> Shown
         ensures value { (l : List ℕ) → result ≡ shown_by (state_of self.now l) table index (Some entry) }
@@ -74,6 +76,7 @@ impl Directory {
         }
     }
 
+    #[inline(always)]
     #[tactic(auto, using(std::proofs::lemmas::Option::get_or_from_slice_get, crate::proofs::States::at_none), unfolding(rules::specs::State::level, rules::specs::State::stack))]
     pub fn level(&self, task: u32) -> u32
         ensures { (l : List ℕ) → result ≡ level_of (state_of self.now l) task }
@@ -84,6 +87,7 @@ impl Directory {
     }
 
     // The current context of a task.
+    #[inline(always)]
     #[tactic(auto, using(std::proofs::lemmas::Option::get_or_from_slice_get, crate::proofs::States::at_none), unfolding(rules::specs::State::stack))]
     pub fn current(&self, task: u32) -> Option<u32>
         ensures value { (l : List ℕ) → result ≡ current_of (stack_at (state_of self.now l) task) }
@@ -93,6 +97,7 @@ impl Directory {
     }
 
     // The context from which the current one of a task was called.
+    #[inline(always)]
     #[tactic(auto, using(std::proofs::lemmas::Option::get_or_from_slice_get, crate::proofs::States::at_none), unfolding(rules::specs::State::stack))]
     pub fn calling(&self, task: u32) -> Option<u32>
         ensures { (l : List ℕ) → result ≡ calling_of (stack_at (state_of self.now l) task) }
@@ -101,6 +106,7 @@ impl Directory {
     }
 
     // Where the next bytes of a table's block begin.
+    #[inline(always)]
     #[tactic(auto, using(std::proofs::lemmas::Option::get_or_from_slice_get, crate::proofs::States::at_none), unfolding(rules::specs::State::table))]
     pub fn start(&self, table: u32) -> Option<u32>
         ensures value { (l : List ℕ) → result ≡ (if nat_lt table 9 then Some (block_start table + (table_at (state_of self.now l) table).claim) else None) }
@@ -111,6 +117,7 @@ impl Directory {
     }
 
     // Adds an entry to a table and answers its index, if there are such a table and room in it.
+    #[inline(always)]
     #[tactic(auto, unfolding(rules::specs::State::table, rules::specs::Effects::with_table, crate::specs::Live::can_add))]
     pub fn add(&mut self, table: u32, entry: Entry) -> Option<Below<64>>
         ensures value { (l : List ℕ) → result ≡ (if can_add (state_of self.old l) table entry then Some (next_index (state_of self.old l) table) else None) }
@@ -124,6 +131,7 @@ impl Directory {
     }
 
     // Opens a context of a task, if there is such a task and a level for it.
+    #[inline(always)]
     #[tactic(auto, unfolding(rules::specs::State::level, rules::specs::State::stack, rules::specs::Effects::with_stack, crate::specs::Live::can_enter))]
     pub fn enter(&mut self, task: u32, index: u32)
         ensures { (l : List ℕ) → state_of self.new l ≡ (if can_enter (state_of self.old l) task then with_stack task (index ∷ stack_at (state_of self.old l) task) (state_of self.old l) else state_of self.old l) }
@@ -135,6 +143,7 @@ impl Directory {
     }
 
     // Closes a context of a task, given what it shows: the entries from it on end, and the bytes from its first one on are free.
+    #[inline(always)]
     #[tactic(auto, unfolding(rules::specs::State::stack, rules::specs::State::table, rules::specs::Effects::with_stack, rules::specs::Effects::with_table, rules::specs::Effects::leave, crate::specs::Live::can_leave))]
     pub fn leave(&mut self, task: u32, context: u32, object: Shown)
         ensures { (l : List ℕ) → shown_at (state_of self.old l) task context ≡ object → state_of self.new l ≡ (if can_leave (state_of self.old l) task context then leaving task context (state_of self.old l) else state_of self.old l) }
@@ -165,6 +174,7 @@ impl Directory {
 }
 
 // How many bytes of a block lie before the first byte of an object.
+#[inline(always)]
 fn bytes_before(object: Shown, block: u32) -> u32
     ensures { result ≡ object.base - 4 * object.slots - block }
 {

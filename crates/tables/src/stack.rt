@@ -33,6 +33,7 @@ impl Stack {
         }
     }
 
+    #[inline(always)]
     pub(crate) fn level(&self) -> u32
         ensures { result ≡ length self.now }
     {
@@ -40,6 +41,7 @@ impl Stack {
     }
 
     // Opens a context, if there is a level for it.
+    #[inline(always)]
     pub(crate) fn push(&mut self, index: u32)
         ensures { self.new ≡ (if nat_lt (length self.old) 8 then index ∷ self.old else self.old) }
     {
@@ -49,6 +51,7 @@ impl Stack {
     }
 
     // The context that was opened last.
+    #[inline(always)]
     pub(crate) fn current(&self) -> Option<u32>
         ensures { result ≡ current_of self.now }
     {
@@ -56,6 +59,7 @@ impl Stack {
     }
 
     // The context from which the current one was called.
+    #[inline(always)]
     pub(crate) fn calling(&self) -> Option<u32>
         ensures { result ≡ calling_of self.now }
     {
@@ -63,6 +67,7 @@ impl Stack {
     }
 
     // Closes the current context, if one is open.
+    #[inline(always)]
     pub(crate) fn pop(&mut self)
         ensures { self.new ≡ popped self.old }
     {

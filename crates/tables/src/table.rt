@@ -44,6 +44,7 @@ impl Table {
         }
     }
 
+    #[inline(always)]
     pub(crate) fn entry(&self, index: u32) -> Option<Entry>
         ensures value { result ≡ slice_get self.now.entries index }
         ensures bound { OnSome result (index < 64) }
@@ -52,6 +53,7 @@ impl Table {
     }
 
     // How many bytes of the block are taken.
+    #[inline(always)]
     pub(crate) fn claim(&self) -> u32
         ensures value { result ≡ self.now.claim }
         ensures within { result ≤ 2048 }
@@ -60,6 +62,7 @@ impl Table {
     }
 
     // Adds an entry and answers its index, if there is room for it.
+    #[inline(always)]
     #[tactic(auto, unfolding(rules::specs::Effects::grown, rules::specs::Tests::has_room))]
     pub(crate) fn add(&mut self, entry: Entry) -> Option<Below<64>>
         ensures value { result ≡ (if has_room self.old (takes entry) then Some (length self.old.entries) else None) }
@@ -76,6 +79,7 @@ impl Table {
     }
 
     // Keeps the first entries, and sets how many bytes are taken.
+    #[inline(always)]
     pub(crate) fn cut(&mut self, count: usize, claim: u32)
         requires { claim ≤ 2048 }
         ensures { self.new ≡ record { entries = take count self.old.entries; claim = claim } }
