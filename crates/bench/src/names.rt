@@ -20,6 +20,7 @@ pub(crate) enum Work {
     Look,
     CallReturn,
     CallCreateReturn,
+    CallTypedReturn,
     CallRefineReturn,
     Fault,
 }
@@ -59,6 +60,7 @@ impl FromStr for Work {
             "look" => Ok(Work::Look),
             "call_return" => Ok(Work::CallReturn),
             "call_create_return" => Ok(Work::CallCreateReturn),
+            "call_typed_return" => Ok(Work::CallTypedReturn),
             "call_refine_return" => Ok(Work::CallRefineReturn),
             "fault" => Ok(Work::Fault),
             _ => Err(UnknownName),

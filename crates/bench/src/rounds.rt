@@ -58,7 +58,7 @@ pub(crate) fn sum<B: Bank + Drop>(
             store.see(task, 16).map(|seen| seen.is_some() as u64)
         }),
         Work::Look => rounds(on, count, numbers, |store, _, task| {
-            store.look(task, 16).map(|looked| looked.1 as u64)
+            store.look(task, 16).map(|_| 1)
         }),
         Work::CallReturn => rounds(on, count, numbers, |store, _, task| {
             store.call(task, 16, zero | 4)?;
@@ -67,6 +67,11 @@ pub(crate) fn sum<B: Bank + Drop>(
         Work::CallCreateReturn => rounds(on, count, numbers, |store, _, task| {
             store.call(task, 16, zero | 4)?;
             store.create(task, 4, zero | 8, zero | 1)?;
+            store.return_result(task, 8).map(|()| 0)
+        }),
+        Work::CallTypedReturn => rounds(on, count, numbers, |store, _, task| {
+            store.call(task, 20, zero | 4)?;
+            store.typed(task, 0, 4, zero | 8, zero | 1)?;
             store.return_result(task, 8).map(|()| 0)
         }),
         Work::CallRefineReturn => rounds(on, count, numbers, |store, _, task| {
