@@ -40,9 +40,16 @@ pub trait Unit: Copy {
         requires { length units.old ≡ length source.now }
         ensures { units.new ≡ units_of source.now }
     {
-        // By place, for the same reason.
-        for (i, byte) in source.iter().enumerate() {
-            units[i] = Self::encode(*byte);
+        // By place, for the same reason, and by fours, which the compiler does not do by itself.
+        let fours = source.len() / 4;
+        for k in 0..fours {
+            units[4 * k] = Self::encode(source[4 * k]);
+            units[4 * k + 1] = Self::encode(source[4 * k + 1]);
+            units[4 * k + 2] = Self::encode(source[4 * k + 2]);
+            units[4 * k + 3] = Self::encode(source[4 * k + 3]);
+        }
+        for i in 4 * fours..source.len() {
+            units[i] = Self::encode(source[i]);
         }
     }
 
