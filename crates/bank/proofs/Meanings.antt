@@ -39,7 +39,7 @@ pub map-zeros : {X : Type 0} (f : ℕ → X) (n : ℕ) → map f (replicate n 0)
 map-zeros f zero = refl
 map-zeros f (suc n) = ap (λ us. f 0 ∷ us) (map-zeros f n)
 
--- and so are the bytes of a word
+-- the bytes of a word are bytes
 pub word_bytes-small : (w i : ℕ) → get_or (word_bytes w) i 0 < 256
 unfolding word_bytes
 word_bytes-small w zero = omega arith

@@ -107,7 +107,7 @@ impl<'a, U: Unit> LentBank<'a, U> {
     }
 }
 
-// Fills four units with the bytes of a word.
+// Fills four units with the bytes of a word, which are told by division: the compiler makes one store of them.
 #[inline(always)]
 fn encode_word<U: Unit>(units: &mut [U], word: u32)
     requires { length units.old ≡ 4 }
@@ -148,6 +148,7 @@ impl<U: Unit> Bank for LentBank<'_, U> {
     fn read_run(&self, address: u32, out: &mut [u8]) {
         let units = units::used(self.memory);
         let at = address as usize;
+        // One byte without a slice, and a run inside without cutting it.
         if out.len() == 1 {
             out[0] = self.read(address);
         } else if out.len() <= units.len() && at <= units.len() - out.len() {

@@ -103,7 +103,7 @@ fn load<B: Bank>(store: &mut Store<B>) -> Result<(), Fault> {
 }
 
 // Makes rounds of one step by the task, and sums what each answers and a byte of the buffer. The task's number is made anew in
-// each round, so that the compiler cannot make the step once for all. The store is of any type, since the bound of a closure
+// each round, so that the compiler cannot hoist the step out of the loop. The store is of any type, since the bound of a closure
 // cannot name a store over any bank.
 fn rounds<S, F: Fn(&mut S, &mut [u8; LARGEST], u32) -> Result<u64, Fault>>(
     store: &mut S,

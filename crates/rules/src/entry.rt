@@ -22,6 +22,7 @@ pub struct TypeControl {
 // A part of a storage object: a run of its data bytes and a run of its slots.
 #[derive(Clone, Copy, Debug, PartialEq, Eq)]
 pub struct Refinement {
+    // Of 16 bits, as the index, so that an entry has 16 bytes.
     pub table: u16,
     pub index: u16,
     pub byte: u16,

@@ -1,4 +1,4 @@
-// Where bytes and slots lie, and the words of descriptors.
+// What entries show, and where slots and data bytes lie.
 ghost use Rattle.std.specs.Prelude.{◌≡◌, ◌+◌, ◌-◌, ◌*◌, Some};
 ghost use Rattle.rules.specs.State.{byte_at, nothing, part, slot_at, whole};
 

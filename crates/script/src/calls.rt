@@ -9,7 +9,7 @@ use bank::Bank;
 use rules::fault::Fault;
 use store::store::Store;
 
-// Two impls, since one call answers a number and the other nothing, which print differently.
+// One impl for each kind of answer, since each prints differently.
 impl From<Result<u32, Fault>> for Reply {
     ghost from_gives = { λ answer reply. reply ≡ number_reply answer };
 

@@ -40,7 +40,8 @@ pub(crate) struct Caller {
     ghost known: { task < 9 },
 }
 
-// A selector, with the task that gave it, the task's current context and what that shows, and its place among the operands.
+// A selector, with the task that gave it, the task's current context and what that shows, and its place among the operands. The
+// context's index is there for the clauses, which say by it what is shown.
 #[derive(Clone, Copy)]
 pub(crate) struct Operand {
     pub(crate) task: u32,
@@ -102,7 +103,6 @@ impl Operand {
     }
 
     // A fault of this operand.
-    #[inline(always)]
     #[cold]
     pub(crate) fn refusal(&self, reason: Reason) -> Fault
         ensures { result ≡ refusal_at reason self.now.task self.now.place self.now.selector }

@@ -55,6 +55,7 @@ impl<B: Bank> Store<B> {
     }
 
     // Adds an entry that takes no bytes to a table and answers its index, if there is room for it.
+    #[inline(always)]
     pub(crate) fn add(&mut self, table: Below<9>, entry: Entry) -> Option<Below<64>>
         requires empty { takes entry ≡ 0 }
         requires fits { fits_table table entry ≡ true }
@@ -182,6 +183,7 @@ impl<B: Bank> Store<B> {
     }
 
     // Names an entry in a slot.
+    #[inline(always)]
     fn name(&mut self, table: Below<9>, index: Below<64>, rights: Rights, place: Place)
         ensures { self.new ≡ put place (encode (record { table = table; index = index; rights = rights })) self.old }
     {

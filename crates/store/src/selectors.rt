@@ -13,7 +13,7 @@ use rules::right::Right;
 use rules::shown::{Place, Shown};
 
 impl<B: Bank> Store<B> {
-    // A task, with its current context, if its operators may come.
+    // A task, with its current context and what that shows, if its operators may come.
     #[inline(always)]
     #[tactic(auto, unfolding(rules::specs::Tests::operator))]
     pub(crate) fn caller(&self, task: u32) -> Result<Caller, Fault>
@@ -59,6 +59,7 @@ impl<B: Bank> Store<B> {
         requires { Stands self.now operand.now }
         ensures { result ≡ resolve (weight right) self.now operand.now.task operand.now.context operand.now.place operand.now.selector }
     {
+        // What the current context shows is at hand, and needs no way through a result.
         let by = if operand.selector % 4 == 0 {
             operand.here
         } else {

@@ -77,7 +77,7 @@ impl<B: Bank> Store<B> {
         self.directory.shown(table, index)
     }
 
-    // What an entry that stands here shows.
+    // The same, given the entry, which saves a look-up.
     #[inline(always)]
     #[tactic(auto, unfolding(rules::specs::State::shown))]
     pub(crate) fn shows(&self, table: u32, index: u32, entry: Entry) -> Shown

@@ -59,7 +59,7 @@ impl Directory {
         }
     }
 
-    // What an entry that stands here shows.
+    // The same, given the entry, which saves a look-up.
     #[inline(always)]
     #[tactic(auto, using(std::proofs::lemmas::Option::get_or_from_slice_get, crate::proofs::States::at_none))]
     pub fn shows(&self, table: u32, index: u32, entry: Entry) -> Shown
