@@ -107,7 +107,8 @@ fn store<U: Unit>(memory: &mut [U], bytes: &[u8])
 }
 
 fn load<U: Unit>(memory: &mut [U], bytes: &mut [u8])
-    ensures { bytes.new ≡ read_run (U.bytes_of (used memory.old)) 0 (length bytes.old) }
+    ensures read { bytes.new ≡ read_run (U.bytes_of (used memory.old)) 0 (length bytes.old) }
+    ensures kept { memory.new ≡ memory.old }
 {
     LentBank::new(memory).read_run(0, bytes);
 }

@@ -18,4 +18,4 @@ returns g c = λ d.
     let after : m ≡ with_turned g.U.Cell.turned us c.args.at c.args.bit d = c.turn.ensures d ∙ rw held in
     let whole : used m ≡ m = used_all m (omega arith) in
     let bytes : length (g.U.Unit.bytes_of (used m)) ≡ 6 = rw whole (length-bytes_of _ g.U.Unit.byte_of g.U.Unit.unit_of g.met.U.Unit.back g.U.Unit.bytes_of g.met.U.Unit.bytes_each m ∙ long) in
-    c.from-2.ensures ∙ loaded (g.U.Unit.bytes_of (used m)) c.load.new.bytes 6 bytes c.load.ensures ∙ rw (whole, after)
+    c.from-2.ensures ∙ loaded (g.U.Unit.bytes_of (used m)) c.load.new.bytes 6 bytes c.load.ensures.read ∙ rw (whole, after)
