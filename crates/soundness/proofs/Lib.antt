@@ -1,0 +1,14 @@
+pub mod Additions
+pub mod Binds
+pub mod Changes
+pub mod Entries
+pub mod Finds
+pub mod Fits
+pub mod Lasts
+pub mod Leaves
+pub mod Loads
+pub mod Overwrites
+pub mod Plans
+pub mod Starts
+pub mod Steps
+pub mod Words
