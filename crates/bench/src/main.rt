@@ -47,7 +47,7 @@ fn run<U: Unit>(rt: &HostRuntime, work: Work, count: u32, numbers: Numbers) -> i
 
 fn usage(rt: &HostRuntime) -> io::Result<()> {
     println!(rt;
-        "bench BANK WORK COUNT: plain or coded; copy copy_env null restrict read1 read64 read1024 write1 write64 write1024 see look call_return call_create_return call_typed_return call_refine_return fault"
+        "bench BANK WORK COUNT: plain or coded; copy copy_env null restrict amplify read1 read64 read1024 write1 write64 write1024 see look call_return call_create_return call_typed_return call_refine_return fault"
     )
 }
 

@@ -13,6 +13,7 @@ pub(crate) enum Work {
     CopyEnv,
     Null,
     Restrict,
+    Amplify,
     // Of how many bytes.
     Read(usize),
     Write(usize),
@@ -50,6 +51,7 @@ impl FromStr for Work {
             "copy_env" => Ok(Work::CopyEnv),
             "null" => Ok(Work::Null),
             "restrict" => Ok(Work::Restrict),
+            "amplify" => Ok(Work::Amplify),
             "read1" => Ok(Work::Read(1)),
             "read64" => Ok(Work::Read(64)),
             "read1024" => Ok(Work::Read(1024)),

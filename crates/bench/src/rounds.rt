@@ -46,6 +46,9 @@ pub(crate) fn sum<B: Bank + Drop>(
         Work::Restrict => rounds(on, count, numbers, |store, _, task| {
             store.restrict(task, 16, 32, zero | 35).map(|()| 0)
         }),
+        Work::Amplify => rounds(on, count, numbers, |store, _, task| {
+            store.amplify(task, 20, 24, 32).map(|()| 0)
+        }),
         Work::Read(length) => rounds(on, count, numbers, |store, buffer, task| {
             let run = &mut buffer[..length.min(LARGEST)];
             store.read(task, 16, zero, run).map(|()| 0)

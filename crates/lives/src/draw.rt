@@ -77,7 +77,7 @@ pub(crate) fn load<'a>(dice: &mut Dice, bytes: &'a [u8; BYTES]) -> Load<'a> {
 fn operator<'a>(dice: &mut Dice, bytes: &'a [u8; BYTES]) -> Operator<'a> {
     let source = selector(dice);
     let destination = selector(dice);
-    match dice.below(12) {
+    match dice.below(13) {
         0 => Operator::Copy {
             source,
             destination,
@@ -122,6 +122,11 @@ fn operator<'a>(dice: &mut Dice, bytes: &'a [u8; BYTES]) -> Operator<'a> {
         10 => Operator::Call {
             argument: source,
             slots: 3 + dice.below(8),
+        },
+        11 => Operator::Amplify {
+            control: selector(dice),
+            source,
+            destination,
         },
         _ => Operator::Return { res: source },
     }

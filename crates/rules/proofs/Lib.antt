@@ -1,1 +1,2 @@
 pub mod GrantedWord
+pub mod Unions

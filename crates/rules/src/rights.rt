@@ -6,7 +6,7 @@ ghost use Rattle.rules.specs.State.{has};
 use crate::below::Below;
 use crate::right::Right;
 use std::marker::Model;
-use std::ops::BitAnd;
+use std::ops::{BitAnd, BitOr};
 
 // The rights of a descriptor, as the sum of the numbers that stand for them.
 #[derive(Clone, Copy, Debug, PartialEq, Eq)]
@@ -71,6 +71,22 @@ impl BitAnd for Rights {
     fn bitand(self, other: Rights) -> Rights {
         Rights {
             sum: Below::low((self.sum.get() & other.sum.get()) as u32),
+        }
+    }
+}
+
+// The rights in one set or the other.
+impl BitOr for Rights {
+    ghost use Rattle.std.specs.Prelude.{◌≡◌, bit_or};
+
+    type Output = Rights;
+
+    ghost bitor_gives = { λ a b either. either ≡ bit_or a b };
+
+    #[tactic(auto, using(crate::proofs::Unions::or_of_rights))]
+    fn bitor(self, other: Rights) -> Rights {
+        Rights {
+            sum: Below::low((self.sum.get() | other.sum.get()) as u32),
         }
     }
 }

@@ -8,8 +8,8 @@ use Rattle.runs.specs.declared.call.Call.TheVariants.{Load as OfLoad, Operator a
 use Rattle.runs.specs.declared.call.Load.{Load as CodedLoad}
 use Rattle.runs.specs.declared.call.Load.TheVariants.{Place, Control, Task, Grant, Fill, Seal}
 use Rattle.runs.specs.declared.call.Operator.{Operator as CodedOperator}
-use Rattle.runs.specs.declared.call.Operator.TheVariants.{Copy, Null, Restrict, Create, Typed, Refine, Read, Write, See, Look, Call as Calls, Return}
-use Rattle.runs.specs.Calls.{Call, Load, Operator, Outcome, load, operate, place, control, task, grant, fill, seal, copy, null, restrict, create, typed, refine, read, write, see, look, call, return_result}
+use Rattle.runs.specs.declared.call.Operator.TheVariants.{Copy, Null, Restrict, Amplify, Create, Typed, Refine, Read, Write, See, Look, Call as Calls, Return}
+use Rattle.runs.specs.Calls.{Call, Load, Operator, Outcome, load, operate, place, control, task, grant, fill, seal, copy, null, restrict, amplify, create, typed, refine, read, write, see, look, call, return_result}
 
 -- what see and look tell, as an answer
 abbrev pub told_answer : Option (ℕ × ℕ × ℕ) → Answer
@@ -31,6 +31,7 @@ abbrev pub operator_of : CodedOperator → Operator
 operator_of (Copy src dst) = copy src dst
 operator_of (Null dst) = null dst
 operator_of (Restrict src dst mask) = restrict src dst mask
+operator_of (Amplify ctl src dst) = amplify ctl src dst
 operator_of (Create dst n k) = create dst n k
 operator_of (Typed ctl dst n k) = typed ctl dst n k
 operator_of (Refine src dst byte bytes slot slots) = refine src dst byte bytes slot slots

@@ -1,4 +1,4 @@
-// The calls that have code, each with the numbers and the bytes that it is handed.
+// The calls, each with the numbers and the bytes that it is handed.
 
 // The load calls.
 #[derive(Clone, Copy, Debug)]
@@ -49,6 +49,11 @@ pub enum Operator<'a> {
         source: u16,
         destination: u16,
         mask: u32,
+    },
+    Amplify {
+        control: u16,
+        source: u16,
+        destination: u16,
     },
     Create {
         destination: u16,

@@ -104,6 +104,11 @@ fn make_operator<B: Bank>(
             destination,
             mask,
         } => done(store.restrict(task, source, destination, mask)),
+        Operator::Amplify {
+            control,
+            source,
+            destination,
+        } => done(store.amplify(task, control, source, destination)),
         Operator::Create {
             destination,
             size,

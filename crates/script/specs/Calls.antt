@@ -4,13 +4,13 @@ use Rattle.rules.specs.declared.fault.Fault.{Fault}
 use Rattle.rules.specs.State.{State}
 use Rattle.rules.specs.Effects.{done}
 use Rattle.rules.specs.Loading.{place_plan, control_plan, task_plan, grant_plan, fill_plan, seal_plan}
-use Rattle.rules.specs.Operators.{copy_plan, null_plan, restrict_plan, create_plan, typed_plan, refine_plan, read_plan, write_plan, see_plan, look_plan, call_plan, return_plan}
+use Rattle.rules.specs.Operators.{copy_plan, null_plan, restrict_plan, amplify_plan, create_plan, typed_plan, refine_plan, read_plan, write_plan, see_plan, look_plan, call_plan, return_plan}
 use Rattle.store.specs.Answers.{seen, listed}
 use Rattle.script.specs.declared.line.Line.{Line}
 use Rattle.script.specs.declared.reply.Reply.{Reply}
 use Rattle.script.specs.declared.reply.Reply.TheVariants.{Bad, Done, Number, Absent, Seen, Looked, Refused}
 use Rattle.script.specs.declared.word.Word.{Word}
-use Rattle.script.specs.declared.word.Word.TheVariants.{Place, Control, Task, Grant, Fill, Seal, Copy, Null, Restrict, Create, Typed, Refine, Read, Write, See, Look, Call, Return}
+use Rattle.script.specs.declared.word.Word.TheVariants.{Place, Control, Task, Grant, Fill, Seal, Copy, Null, Restrict, Amplify, Create, Typed, Refine, Read, Write, See, Look, Call, Return}
 
 abbrev pub number_reply : Result ℕ Fault → Reply
 number_reply (Ok n) = Number n
@@ -55,6 +55,7 @@ run_by Seal l s = replied done_reply (done s (seal_plan s))
 run_by Copy l s = replied done_reply (done s (copy_plan l.task l.a l.b s))
 run_by Null l s = replied done_reply (done s (null_plan l.task l.a s))
 run_by Restrict l s = replied done_reply (done s (restrict_plan l.task l.a l.b l.c s))
+run_by Amplify l s = replied done_reply (done s (amplify_plan l.task l.a l.b l.c s))
 run_by Create l s = replied done_reply (done s (create_plan l.task l.a l.b l.c s))
 run_by Typed l s = replied done_reply (done s (typed_plan l.task l.a l.b l.c l.d s))
 run_by Refine l s = replied done_reply (done s (refine_plan l.task l.a l.b l.c l.d l.e l.f s))

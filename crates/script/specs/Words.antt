@@ -2,7 +2,7 @@
 use Rattle.std.specs.Prelude.{ℕ, cond, List, Some, None, codes, Option}
 use Rattle.std.specs.Str.{bytes_eq}
 use Rattle.script.specs.declared.word.Word.{Word}
-use Rattle.script.specs.declared.word.Word.TheVariants.{Place, Control, Task, Grant, Fill, Seal, Copy, Null, Restrict, Create, Typed, Refine, Read, Write, See, Look, Call, Return}
+use Rattle.script.specs.declared.word.Word.TheVariants.{Place, Control, Task, Grant, Fill, Seal, Copy, Null, Restrict, Amplify, Create, Typed, Refine, Read, Write, See, Look, Call, Return}
 
 infixr 20 ◌else◌
 -- the first that there is
@@ -24,6 +24,7 @@ word_of t =
     reads t (codes "copy") Copy else
     reads t (codes "null") Null else
     reads t (codes "restrict") Restrict else
+    reads t (codes "amplify") Amplify else
     reads t (codes "create") Create else
     reads t (codes "typed") Typed else
     reads t (codes "refine") Refine else

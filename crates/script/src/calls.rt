@@ -88,6 +88,7 @@ pub fn run<B: Bank>(store: &mut Store<B>, line: Line) -> Reply
         Word::Copy => store.copy(task, line.a, line.b).into(),
         Word::Null => store.null(task, line.a).into(),
         Word::Restrict => store.restrict(task, line.a, line.b, c).into(),
+        Word::Amplify => store.amplify(task, line.a, line.b, line.c).into(),
         Word::Create => store.create(task, line.a, b, c).into(),
         Word::Typed => store.typed(task, line.a, line.b, c, d).into(),
         Word::Refine => store.refine(task, line.a, line.b, c, d, e, f).into(),

@@ -12,6 +12,7 @@ pub enum Word {
     Copy,
     Null,
     Restrict,
+    Amplify,
     Create,
     Typed,
     Refine,

@@ -31,6 +31,8 @@ impl TryFrom<&[u8]> for Word {
             Ok(Word::Null)
         } else if text == b"restrict".as_slice() {
             Ok(Word::Restrict)
+        } else if text == b"amplify".as_slice() {
+            Ok(Word::Amplify)
         } else if text == b"create".as_slice() {
             Ok(Word::Create)
         } else if text == b"typed".as_slice() {

@@ -86,64 +86,13 @@ module _ (s u : State) (t : ℕ) (e : Entry) (a : Adds s u t e) where
   unfolding level
   other_level v ne = ap length (a.other_stacks v ne)
 
-  module _ (sound : Sound s) (can : Addable s t e) (st : Stacked s u t e) where
-    claim_grows : (v : ℕ) → (table s v).claim ≤ (table u v).claim
-    claim_grows v =
-        elim (cases_eq v t) [
-          | inl c ↦ rw (c, a.claim) (omega arith)
-          | inr c ↦ rw (a.others v c) (omega arith)
-        ]
-
-    level_rises : (v : ℕ) → level s v ≤ level u v
-    level_rises v =
-        elim (cases_eq v t) [
-          | inl c ↦ rw c st.grows
-          | inr c ↦ rw (other_level v c) (omega arith)
-        ]
-
+  module _ (sound : Sound s) (can : Addable s t e) where
     -- a new object takes the bytes that were cleared
     new_base : (o : Storage) → Object o ≡ e → (o.base ≡ block_start t + (table s t).claim + 4 * o.slots) × (takes e ≡ 4 * o.slots + o.bytes)
     new_base o same = (rw (← same) at can.ready, rw (← same) refl)
 
-    few_entries : (v : ℕ) → length (table u v).entries ≤ 64
-    few_entries v =
-        elim (cases_eq v t) [
-          | inl c ↦ rw (c, a.entries) (omega (arith, can.few, length-append (table s t).entries (e ∷ [])))
-          | inr c ↦ rw (a.others v c) (sound.few_entries v)
-        ]
-
-    small_claim : (v : ℕ) → (table u v).claim ≤ 2048
-    small_claim v =
-        elim (cases_eq v t) [
-          | inl c ↦ rw (c, a.claim) can.room
-          | inr c ↦ rw (a.others v c) (sound.small_claim v)
-        ]
-
-    in_claim : (v i : ℕ) (o : Storage) → entry u v i ≡ Some (Object o) → (block_start v + 4 * o.slots ≤ o.base) × (o.base + o.bytes ≤ block_start v + (table u v).claim)
-    in_claim v i o h =
-        elim (entry_was v i (Object o) h) [
-          | inl new ↦
-              let x = new_base o new.1.1 in
-              rw (new.0, a.claim) (omega (arith, x.0, x.1), omega (arith, x.0, x.1))
-          | inr old ↦
-              let x = sound.in_claim v i o old in
-              (x.0, omega (arith, x.1, claim_grows v))
-        ]
-
-    in_order : (v i j : ℕ) (o p : Storage) → i < j → entry u v i ≡ Some (Object o) → entry u v j ≡ Some (Object p) → o.base + o.bytes + 4 * p.slots ≤ p.base
-    in_order v i j o p less h k =
-        let first = first_old v i j (Object o) (Object p) less h k in
-        elim (entry_was v j (Object p) k) [
-          | inl new ↦
-              let x = new_base p new.1.1 in
-              let there : entry s t i ≡ Some (Object o) = rw (← new.0) first in
-              let y = sound.in_claim t i o there in
-              omega (arith, x.0, y.1)
-          | inr old ↦ sound.in_order v i j o p less first old
-        ]
-
     -- an old object has its slots elsewhere
-    slot_stays : (v i : ℕ) (o : Storage) (k : ℕ) → entry s v i ≡ Some (Object o) → k < o.slots → word_at u.bytes (slot_of o k) ≡ word_at s.bytes (slot_of o k)
+    pub slot_stays : (v i : ℕ) (o : Storage) (k : ℕ) → entry s v i ≡ Some (Object o) → k < o.slots → word_at u.bytes (slot_of o k) ≡ word_at s.bytes (slot_of o k)
     slot_stays v i o k h less = rw a.bytes (word_elsewhere s.bytes (block_start t + (table s t).claim) (replicate (takes e) 0) (slot_of o k) (rw (length-replicate {A = ℕ} (takes e) 0) away))
       where
         away : (slot_of o k + 4 ≤ block_start t + (table s t).claim) ⊎ (block_start t + (table s t).claim + takes e ≤ slot_of o k)
@@ -163,13 +112,69 @@ module _ (s u : State) (t : ℕ) (e : Entry) (a : Adds s u t e) where
                   ]
             ]
 
+    -- and the slots of a new one hold 0
+    pub new_slot : (o : Storage) (k : ℕ) → Object o ≡ e → k < o.slots → word_at u.bytes (slot_of o k) ≡ 0
+    new_slot o k same less =
+        let x = new_base o same in
+        rw a.bytes (word_cleared s.bytes (block_start t + (table s t).claim) (takes e) (slot_of o k) (omega (arith, x.0)) (omega (arith, x.0, x.1)) (omega (arith, can.known, can.room, can.large)))
+
+  module _ (sound : Sound s) (can : Addable s t e) (st : Stacked s u t e) where
+    claim_grows : (v : ℕ) → (table s v).claim ≤ (table u v).claim
+    claim_grows v =
+        elim (cases_eq v t) [
+          | inl c ↦ rw (c, a.claim) (omega arith)
+          | inr c ↦ rw (a.others v c) (omega arith)
+        ]
+
+    level_rises : (v : ℕ) → level s v ≤ level u v
+    level_rises v =
+        elim (cases_eq v t) [
+          | inl c ↦ rw c st.grows
+          | inr c ↦ rw (other_level v c) (omega arith)
+        ]
+
+    few_entries : (v : ℕ) → length (table u v).entries ≤ 64
+    few_entries v =
+        elim (cases_eq v t) [
+          | inl c ↦ rw (c, a.entries) (omega (arith, can.few, length-append (table s t).entries (e ∷ [])))
+          | inr c ↦ rw (a.others v c) (sound.few_entries v)
+        ]
+
+    small_claim : (v : ℕ) → (table u v).claim ≤ 2048
+    small_claim v =
+        elim (cases_eq v t) [
+          | inl c ↦ rw (c, a.claim) can.room
+          | inr c ↦ rw (a.others v c) (sound.small_claim v)
+        ]
+
+    in_claim : (v i : ℕ) (o : Storage) → entry u v i ≡ Some (Object o) → (block_start v + 4 * o.slots ≤ o.base) × (o.base + o.bytes ≤ block_start v + (table u v).claim)
+    in_claim v i o h =
+        elim (entry_was v i (Object o) h) [
+          | inl new ↦
+              let x = new_base sound can o new.1.1 in
+              rw (new.0, a.claim) (omega (arith, x.0, x.1), omega (arith, x.0, x.1))
+          | inr old ↦
+              let x = sound.in_claim v i o old in
+              (x.0, omega (arith, x.1, claim_grows v))
+        ]
+
+    in_order : (v i j : ℕ) (o p : Storage) → i < j → entry u v i ≡ Some (Object o) → entry u v j ≡ Some (Object p) → o.base + o.bytes + 4 * p.slots ≤ p.base
+    in_order v i j o p less h k =
+        let first = first_old v i j (Object o) (Object p) less h k in
+        elim (entry_was v j (Object p) k) [
+          | inl new ↦
+              let x = new_base sound can p new.1.1 in
+              let there : entry s t i ≡ Some (Object o) = rw (← new.0) first in
+              let y = sound.in_claim t i o there in
+              omega (arith, x.0, y.1)
+          | inr old ↦ sound.in_order v i j o p less first old
+        ]
+
     slots : (v i : ℕ) (o : Storage) → entry u v i ≡ Some (Object o) → (k : ℕ) → k < o.slots → NullOrLive u v o.level (word_at u.bytes (slot_of o k))
     slots v i o h k less =
         elim (entry_was v i (Object o) h) [
-          | inl new ↦
-              let x = new_base o new.1.1 in
-              null (rw a.bytes (word_cleared s.bytes (block_start t + (table s t).claim) (takes e) (slot_of o k) (omega (arith, x.0)) (omega (arith, x.0, x.1)) (omega (arith, can.known, can.room, can.large))))
-          | inr old ↦ rw (slot_stays v i o k old less) (kept_added v o.level (word_at s.bytes (slot_of o k)) (sound.slots v i o old k less))
+          | inl new ↦ null (new_slot sound can o k new.1.1 less)
+          | inr old ↦ rw (slot_stays sound can v i o k old less) (kept_added v o.level (word_at s.bytes (slot_of o k)) (sound.slots v i o old k less))
         ]
 
     stacked_sound : Sound u

@@ -1,9 +1,8 @@
 -- What the operands of an operator come to in a sound store.
 -- Assumes nothing.
-use Rattle.std.proofs.Common.{◌≡◌, ◌≢◌, ℕ, ◌+◌, ◌/◌, ◌%◌, ◌==◌, ◌<◌, ◌≤◌, true, false, nat_le, nat_lt, List, [], ◌∷◌, length, Some, None, Option, refl, sym, subst, ◌∙◌, arith}
-use Rattle.std.proofs.lemmas.Bool.{both_ways, ltb-true, leb-true}
-use Rattle.std.specs.Option.{IfSome}
-use Rattle.std.specs.Result.{IfOk}
+use Rattle.std.proofs.Common.{◌≡◌, ◌≢◌, ℕ, ◌+◌, ◌<◌, ◌≤◌, true, false, bit_and, bit_or, length, Some, None, refl, sym, ◌∙◌, arith}
+use Rattle.std.proofs.lemmas.Bool.{both_ways}
+use Rattle.std.proofs.lemmas.Nat.{and_le_l, or_lt}
 use Rattle.bank.specs.Words.{word_at}
 use Rattle.rules.specs.declared.entry.Entry.{Entry}
 use Rattle.rules.specs.declared.entry.Entry.TheVariants.{Object, Control, Refined}
@@ -12,20 +11,12 @@ use Rattle.rules.specs.declared.entry.TypeControl.{TypeControl}
 use Rattle.rules.specs.declared.shown.Descriptor.{Descriptor}
 use Rattle.rules.specs.declared.shown.Place.{Place}
 use Rattle.rules.specs.declared.shown.Shown.{Shown}
-use Rattle.rules.specs.State.{State, has, read, write, entry, held, kind_of, level_of, named, shown, slot_at, stack}
-use Rattle.rules.specs.Tests.{control, control_by, current, overwritable, destination, environment, operator, resolve, source, source_or_null, source_with}
-use Rattle.rules.specs.Operators.{has_parts}
+use Rattle.rules.specs.State.{State, read, entry, held, kind_of, level_of, named, shown, slot_at, type2}
+use Rattle.rules.specs.Operators.{has_parts, with_rights}
 use Rattle.soundness.specs.Sound.{Inside, IsContext, NullOrLive, MayName, Sound, names, null, slot_of}
-use Rattle.soundness.proofs.Binds.{after, after_check, after_some, either, some_is}
 use Rattle.soundness.proofs.Changes.{SlotIn}
+use Rattle.soundness.proofs.Origins.{Calls, ControlBy, Environment, Given, Selected, Source}
 use Rattle.soundness.proofs.Words.{IsSmall, named_entry, named_small, zero_names_nothing}
-
--- the operator is called by a loaded task in a sealed store, and c is its current context
-pub record Calls (s : State) (q c : ℕ) : Type 0 where
-  pub large : 18432 ≤ length s.bytes
-  pub sealed : s.sealed ≡ true
-  pub outer : List ℕ
-  pub on_top : stack s q ≡ c ∷ outer
 
 -- v shows runs of a storage object, as the entry e does; one of level 1 or more stands in table q
 pub record PartOf (s : State) (q : ℕ) (e : Entry) (v : Shown) : Type 0 where
@@ -55,6 +46,17 @@ pub record Holds (s : State) (q : ℕ) (d : Descriptor) : Type 0 where
 pub record Slot (s : State) (q : ℕ) (l : Place) : Type 0 where
   pub slot_in : SlotIn s l
   pub at_home : 1 ≤ l.by.level → l.by.owner ≡ q
+
+-- a descriptor that a task holds, with other rights
+holds_with : (s : State) (q rights : ℕ) (d : Descriptor) → rights < 64 → Holds s q d → Holds s q (with_rights rights d)
+holds_with s q rights d few h =
+    record {
+      is_small = record { table = h.is_small.table; index = h.is_small.index; rights = few };
+      of = h.of;
+      is_there = h.is_there;
+      no_context = h.no_context;
+      at_home = h.at_home;
+    }
 
 module _ (s : State) (g : Sound s) (q : ℕ) where
   -- what an entry shows that has parts
@@ -126,67 +128,30 @@ module _ (s : State) (g : Sound s) (q : ℕ) where
   unfolding shown
   first_slots n c k h low = slot_shown (shown s q c) k (context_shows n c h) (rw h.is_there (omega (arith, h.has_slots)))
 
-  module _ (c p sel : ℕ) (o : Calls s q c) where
-    is_current : IsContext s q (length o.outer + 1) c
-    is_current = (rw o.on_top at (g.contexts q)).0
+  pub is_current : (c : ℕ) (o : Calls s q c) → IsContext s q (length o.outer + 1) c
+  is_current c o = (rw o.on_top at (g.contexts q)).0
 
-    -- what the environment of a selector shows
-    environment_shows : (right : ℕ) → IfOk (environment right s q c p sel) (Shows s q)
-    unfolding environment held
-    environment_shows right =
-        either _ (sel % 4 == 0) _ _ (context_shows _ c is_current)
-        (after_some _ (named s (word_at s.bytes (slot_at (shown s q c) (sel % 4)))) _ _ (λ d n.
-        after_check _ (has right d.rights) _ _ (λ _.
-        let h : Holds s q d = held_by (record { by = shown s q c; at = sel % 4 }) d (first_slots _ c (sel % 4) is_current (omega arith)) n in
-        shows d.table d.index h.of h.is_there h.at_home)))
+  -- what the environment of a selector shows
+  environment_shows : (right : ℕ) (v : Shown) → Environment s q right v → Shows s q v
+  environment_shows right v (Environment.the_context c o) = context_shows _ c (is_current c o)
+  environment_shows right v (Environment.by_slot c k d o low n may) =
+      let h : Holds s q d = held_by (record { by = shown s q c; at = k }) d (first_slots _ c k (is_current c o) low) n in
+      shows d.table d.index h.of h.is_there h.at_home
 
-    resolve_finds : (right : ℕ) → IfOk (resolve right s q c p sel) (Slot s q)
-    unfolding resolve
-    resolve_finds right =
-        after _ _ (environment right s q c p sel) _ (environment_shows right) (λ v shown.
-        after_check _ (nat_lt (sel / 4) v.slots) _ _ (λ less. slot_shown v (sel / 4) shown (ltb-true _ _ less)))
+  pub selected_slot : (right : ℕ) (l : Place) → Selected s q right l → Slot s q l
+  selected_slot right l h = slot_shown l.by l.at (environment_shows right l.by h.environment) h.within
 
-    pub source_or_null_finds : IfOk (source_or_null s q c p sel) (λ x. IfSome x (Holds s q))
-    unfolding source_or_null
-    source_or_null_finds = after _ _ (resolve read s q c p sel) _ (resolve_finds read) (λ l slot. if_named (named s (held s l)) (λ d n. held_by l d slot n))
-      where
-        if_named : (x : Option Descriptor) → ((d : Descriptor) → x ≡ Some d → Holds s q d) → IfSome x (Holds s q)
-        if_named (Some d) h = h d refl
-        if_named None h = tt
+  pub source_holds : (d : Descriptor) → Source s q d → Holds s q d
+  source_holds d h = held_by h.place d (selected_slot read h.place h.selected) h.is_named
 
-    pub source_finds : IfOk (source s q c p sel) (Holds s q)
-    unfolding source
-    source_finds = after _ _ (source_or_null s q c p sel) _ source_or_null_finds (λ x holds. some_is _ x _ (λ d e. subst (λ (y : Option Descriptor). IfSome y (Holds s q)) e holds))
+  pub control_is : (right : ℕ) (k : TypeControl) → ControlBy s q right k → (16 ≤ k.kind) × (k.rights ≤ 63)
+  control_is right k h = g.controls h.by.table h.by.index k h.is_control
 
-    pub source_with_finds : (right : ℕ) → IfOk (source_with right s q c p sel) (Holds s q)
-    unfolding source_with
-    source_with_finds right = after _ _ (source s q c p sel) _ source_finds (λ d holds. after_check _ (has right d.rights) _ _ (λ _. holds))
-
-    pub control_finds : (right : ℕ) → IfOk (control right s q c p sel) (λ k. (16 ≤ k.kind) × (k.rights ≤ 63))
-    unfolding control
-    control_finds right =
-        after _ _ (source_with right s q c p sel) _ (source_with_finds right) (λ d holds.
-        some_is _ (control_by (entry s d.table d.index)) _ (λ k e. is_control d.table d.index k (entry s d.table d.index) refl e))
-      where
-        is_control : (t i : ℕ) (k : TypeControl) (x : Option Entry) → entry s t i ≡ x → control_by x ≡ Some k → (16 ≤ k.kind) × (k.rights ≤ 63)
-        is_control t i k (Some (Control m)) is e = let same : m ≡ k = cc in rw same at (g.controls t i m is)
-        is_control t i k (Some (Object m)) is e = cc
-        is_control t i k (Some (Refined m)) is e = cc
-        is_control t i k None is e = cc
-
-    pub destination_finds : IfOk (destination s q c p sel) (Slot s q)
-    unfolding destination
-    destination_finds = after _ _ (resolve write s q c p sel) _ (resolve_finds write) (λ l slot. after_check _ (overwritable (named s (held s l))) _ _ (λ _. slot))
-
-  pub operator_finds : IfOk (operator s q) (Calls s q)
-  unfolding operator
-  operator_finds =
-      after_check _ (nat_le 18432 (length s.bytes)) _ _ (λ large.
-      after_check _ s.sealed _ _ (λ sealed.
-      some_is _ (current (stack s q)) _ (λ c e. on_stack c large sealed (stack s q) refl e)))
-    where
-      on_stack : (c : ℕ) → nat_le 18432 (length s.bytes) ≡ true → s.sealed ≡ true → (cs : List ℕ) → stack s q ≡ cs → current cs ≡ Some c → Calls s q c
-      on_stack c large sealed [] is e = cc
-      on_stack c large sealed (b ∷ cs) is e =
-          let same : b ≡ c = cc in
-          record { large = leb-true _ _ large; sealed = sealed; outer = cs; on_top = rw same at is }
+  pub given_holds : (d : Descriptor) → Given s q d → Holds s q d
+  given_holds d (Given.as_it_is d' from) = source_holds d from
+  given_holds d (Given.with_fewer e mask from) =
+      let h : Holds s q e = source_holds e from in
+      holds_with s q (bit_and e.rights mask) e (omega (arith, and_le_l e.rights mask, h.is_small.rights)) h
+  given_holds d (Given.with_more e k from by same) =
+      let h : Holds s q e = source_holds e from in
+      holds_with s q (bit_or e.rights k.rights) e (or_lt 6 e.rights k.rights h.is_small.rights (omega (arith, (control_is type2 k by).1))) h

@@ -1,14 +1,23 @@
 -- What the effect of a call must be so that it keeps a sound store sound.
 -- Assumes nothing.
-use Rattle.std.proofs.Common.{◌≡◌, ℕ, ◌+◌, ◌<◌, ◌≤◌, List, ◌∷◌, length, Some}
+use Rattle.std.proofs.Common.{◌≡◌, ◌≢◌, ℕ, ◌+◌, ◌*◌, ◌<◌, ◌≤◌, true, false, List, ◌∷◌, length, Some, Result, refl, ◌∙◌, add-zero, arith}
+use Rattle.std.specs.Result.{IfOk}
+use Rattle.store.proofs.Orders.{room_is}
 use Rattle.rules.specs.declared.entry.Entry.{Entry}
 use Rattle.rules.specs.declared.entry.Entry.TheVariants.{Object}
 use Rattle.rules.specs.declared.entry.Storage.{Storage}
+use Rattle.rules.specs.declared.fault.Fault.{Fault}
+use Rattle.rules.specs.declared.shown.Descriptor.{Descriptor}
 use Rattle.rules.specs.declared.shown.Place.{Place}
-use Rattle.rules.specs.State.{State, entry, level, level_of, stack}
-use Rattle.rules.specs.Effects.{Effect, keep, put_word, write_bytes, add_entry, add_named, start_task, open_context, close_context, seal, add, enter, new_object}
-use Rattle.soundness.specs.Sound.{NullOrLive}
-use Rattle.soundness.proofs.Changes.{AddsContext, AddsPlain, SlotIn}
+use Rattle.rules.specs.declared.shown.Shown.{Shown}
+use Rattle.rules.specs.State.{State, byte_at, encode, entry, kind_of, level, level_of, stack, table, takes}
+use Rattle.rules.specs.Tests.{has_room, level_by}
+use Rattle.rules.specs.Effects.{Effect, Planned, keep, put_word, write_bytes, add_entry, add_named, start_task, open_context, close_context, seal, add, enter, new_object}
+use Rattle.soundness.specs.Sound.{NullOrLive, Sound, names}
+use Rattle.soundness.proofs.Additions.{add_adds, enter_adds}
+use Rattle.soundness.proofs.Changes.{Addable, AddsContext, AddsPlain, Ready, SlotIn}
+use Rattle.soundness.proofs.Finds.{Holds, Shows, shows_nothing, shows_part}
+use Rattle.soundness.proofs.Words.{encode_small, names_encoded}
 
 -- a word that a slot of an object of table t and level n may hold
 pub record MayPut (s : State) (t n w : ℕ) : Type 0 where
@@ -50,3 +59,71 @@ Fits s (start_task q k) = Enters s q k
 Fits s (open_context q k w) = Enters s q k × MayPut s q (level s q + 1) w
 Fits s (close_context q c l w) = Closes s q c l w
 Fits s seal = Unit {0}
+
+-- the effect of a call, if it has one, fits
+abbrev pub Fitting : {X : Type 0} → State → Result (Planned X) Fault → Type 0
+Fitting s r = IfOk r (λ p. Fits s p.effect)
+
+-- the word of a descriptor that a task holds may stand in a slot whose level is high enough, in the task's own table
+pub may_put : (s : State) (q t n : ℕ) (d : Descriptor) → Holds s q d → level_by (entry s d.table d.index) ≤ n → (1 ≤ n → q ≡ t) → MayPut s t n (encode d)
+may_put s q t n d h low home =
+    record {
+      is_word = encode_small d h.is_small;
+      kept = names d (names_encoded s d h.of h.is_small h.is_there)
+          (record {
+            no_context = rw h.is_there h.no_context;
+            no_higher = low;
+            at_home = λ up. h.at_home (rw h.is_there at up) ∙ home (omega arith);
+          });
+    }
+
+-- an entry for which a table has room, of a level that is not below the task's if that is 2 or more
+module _ (s : State) (g : Sound s) (t : ℕ) (e : Entry) (large : 18432 ≤ length s.bytes) (known : t < 9) where
+  addable : (2 ≤ level s t → level s t ≤ level_of e) → has_room (table s t) (takes e) ≡ true → Ready s t e → Addable s t e
+  addable high room ready =
+      let there = room_is (table s t) (takes e) room in
+      record {
+        known = known;
+        large = large;
+        few = there.0;
+        room = there.1;
+        ready = ready;
+        rises = λ i x is up.
+            let below = g.no_higher t i x is in
+            omega (arith, high (omega arith));
+      }
+
+  -- one that is no context
+  pub adds_plain : kind_of e ≢ 1 → level_of e ≤ level s t → (2 ≤ level s t → level s t ≤ level_of e) → (s.sealed ≡ false → level_of e ≡ 0) → has_room (table s t) (takes e) ≡ true → Ready s t e → AddsPlain s (add t e s) t e
+  adds_plain other low high loaded room ready =
+      let a = add_adds s t e g known in
+      record {
+        adds = a.0;
+        addable = addable high room ready;
+        no_context = other;
+        no_higher = low;
+        loaded = loaded;
+        same_stack = a.1;
+      }
+
+module _ (s : State) (g : Sound s) (q : ℕ) where
+  -- bytes that are shown
+  pub in_shown : (v : Shown) (offset n : ℕ) → Shows s q v → offset + n ≤ v.bytes → InData s (byte_at v offset) n
+  in_shown v offset n (shows_nothing none none') inside = no_bytes (omega arith)
+  in_shown v offset n (shows_part e p) inside = in_data v.owner v.object p.object p.is_there (omega (arith, p.base_is)) (omega (arith, p.base_is, p.bytes_inside))
+
+  -- the next context of a task, for which there is room
+  pub enters : (k : ℕ) → 18432 ≤ length s.bytes → q < 9 → q ≢ 0 → 4 ≤ k → (s.sealed ≡ false → level s q ≡ 0) → has_room (table s q) (4 * k) ≡ true → Enters s q k
+  unfolding new_object
+  enters k large known task slots loading room =
+      let a = enter_adds s q k g known in
+      record {
+        adds = a.0;
+        addable = addable s g q (new_object s q 0 k 1 (level s q + 1)) large known (λ _. omega arith) (rw add-zero room) refl;
+        task = task;
+        is_context = refl;
+        has_slots = λ o is. let same : k ≡ o.slots = cc in omega arith;
+        next_level = refl;
+        loading = loading;
+        opened = a.1;
+      }

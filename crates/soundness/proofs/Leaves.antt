@@ -25,19 +25,19 @@ module _ (s : State) (q c : ℕ) where
   abbrev cut : Table
   cut = record { entries = take c (table s q).entries; claim = (shown s q c).base - 4 * (shown s q c).slots - block_start q }
 
-  left_table : q < length s.tables → table u q ≡ cut
+  pub left_table : q < length s.tables → table u q ≡ cut
   unfolding leave table with_stack with_table
   left_table low = get_or-set_same s.tables q cut no_table low
 
-  left_others : (t : ℕ) → t ≢ q → table u t ≡ table s t
+  pub left_others : (t : ℕ) → t ≢ q → table u t ≡ table s t
   unfolding leave table with_stack with_table
   left_others t ne = get_or-set_other s.tables q t cut no_table ne
 
-  left_stack : q < length s.stacks → stack u q ≡ popped (stack s q)
+  pub left_stack : q < length s.stacks → stack u q ≡ popped (stack s q)
   unfolding leave stack with_stack with_table
   left_stack low = get_or-set_same s.stacks q (popped (stack s q)) [] low
 
-  left_other_stacks : (t : ℕ) → t ≢ q → stack u t ≡ stack s t
+  pub left_other_stacks : (t : ℕ) → t ≢ q → stack u t ≡ stack s t
   unfolding leave stack with_stack with_table
   left_other_stacks t ne = get_or-set_other s.stacks q t (popped (stack s q)) [] ne
 
@@ -82,7 +82,7 @@ module _ (s : State) (q c : ℕ) where
     under : (t i : ℕ) (x : Entry) → entry u t i ≡ Some x → t ≡ q → level_of x < n
     under t i x h e = let z = top.is_first (omega arith) i x (before t i x h e) (rw e at (was t i x h)) in omega arith
 
-    higher : (i : ℕ) (x : Entry) → c ≤ i → entry s q i ≡ Some x → n ≤ level_of x
+    pub higher : (i : ℕ) (x : Entry) → c ≤ i → entry s q i ≡ Some x → n ≤ level_of x
     higher i x l h =
         elim (cases_lt c i) [
           | inl f ↦ let z = g.rising q c i (Object top.object) x f top.is_there h (omega (arith, top.is_level)) in omega (arith, top.is_level)
@@ -108,7 +108,7 @@ module _ (s : State) (q c : ℕ) where
     contexts_stay : (t : ℕ) (ks : List ℕ) → (t ≡ q → length ks < n) → AreContexts s t ks → AreContexts u t ks
     contexts_stay t ks lower = contexts_last s u t ks (stays t (length ks) lower) (λ i k x y less h _. was t i x h)
 
-    rest : stack u q ≡ b ∷ cs
+    pub rest : stack u q ≡ b ∷ cs
     rest = left_stack (omega (arith, g.nine_stacks)) ∙ rw two refl
 
     heights : (t : ℕ) → level u t ≤ level s t

@@ -7,6 +7,8 @@ pub mod Fits
 pub mod Lasts
 pub mod Leaves
 pub mod Loads
+pub mod Operators
+pub mod Origins
 pub mod Overwrites
 pub mod Plans
 pub mod Starts

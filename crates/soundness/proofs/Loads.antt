@@ -16,7 +16,7 @@ use Rattle.soundness.proofs.Binds.{after, after_check, check_is}
 use Rattle.soundness.proofs.Changes.{Ready}
 use Rattle.soundness.proofs.Finds.{Holds, shows, slot_shown}
 use Rattle.soundness.proofs.Entries.{known_index, known_table}
-use Rattle.soundness.proofs.Plans.{Fitting, enters, in_shown, adds_plain, may_put}
+use Rattle.soundness.proofs.Fits.{Fitting, enters, in_shown, adds_plain, may_put}
 
 -- load calls may come
 record Loads (s : State) : Type 0 where

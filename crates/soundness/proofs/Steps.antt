@@ -1,6 +1,6 @@
 -- Every effect that fits keeps a store sound, and so does every call and every list of calls.
 -- Assumes nothing.
-use Rattle.std.proofs.Common.{◌≡◌, ℕ, ◌+◌, ◌*◌, List, [], ◌∷◌, length, map, take, Some, Ok, Err, Result, IfOk, IfErr, sym, refl, subst, arith}
+use Rattle.std.proofs.Common.{◌≡◌, ◌⊎◌, inl, inr, ℕ, ◌+◌, ◌*◌, List, [], ◌∷◌, length, map, take, Some, Ok, Err, Result, IfOk, IfErr, sym, refl, subst, arith}
 use Rattle.rules.specs.declared.entry.Entry.{Entry}
 use Rattle.rules.specs.declared.entry.Entry.TheVariants.{Object}
 use Rattle.rules.specs.declared.entry.Storage.{Storage}
@@ -15,13 +15,48 @@ use Rattle.runs.specs.declared.call.Call.{Call as CodedCall}
 use Rattle.soundness.specs.Sound.{NullOrLive, MayName, Sound, slot_of}
 use Rattle.soundness.proofs.Additions.{added_sound, entry_new, entry_old, kept_added, opened_sound}
 use Rattle.soundness.proofs.Changes.{AddsPlain, SlotIn}
-use Rattle.soundness.proofs.Fits.{Closes, Enters, Fits, InData, MayNameNew, MayPut, in_data, no_bytes}
+use Rattle.soundness.proofs.Fits.{Closes, Enters, Fits, Fitting, InData, MayNameNew, MayPut, in_data, no_bytes}
 use Rattle.soundness.proofs.Leaves.{leave_sound}
 use Rattle.soundness.proofs.Loads.{control_fits, fill_fits, grant_fits, place_fits, seal_fits, task_fits}
+use Rattle.soundness.proofs.Operators.{comes_fits}
+use Rattle.soundness.proofs.Origins.{Comes}
 use Rattle.soundness.proofs.Overwrites.{put_in_sound, put_sound, write_nothing_sound, write_sound}
-use Rattle.soundness.proofs.Plans.{Fitting, amplify_fits, call_fits, copy_fits, create_fits, look_fits, null_fits, read_fits, refine_fits, restrict_fits, return_fits, see_fits, typed_fits, write_fits}
+use Rattle.soundness.proofs.Plans.{Coming, amplify_comes, call_comes, copy_comes, create_comes, look_comes, null_comes, read_comes, refine_comes, restrict_comes, return_comes, see_comes, typed_comes, write_comes}
 use Rattle.soundness.proofs.Starts.{sealing_sound}
 use Rattle.soundness.proofs.Words.{IsSmall, encode_small, names_encoded}
+
+-- an operator does nothing, or what comes from its operands
+module _ (s : State) (q : ℕ) where
+  -- what an operator makes of a store, whether refused or not
+  abbrev pub Made : State → Type 0
+  Made u = (u ≡ s) ⊎ ((x : Effect) × (Comes s q x × (u ≡ apply x s)))
+
+  made : {X : Type 0} (r : Result (Planned X) Fault) → Coming s q r → Made (done s r).1
+  made (Ok p) from = inr (p.effect, (from, refl))
+  made (Err f) from = inl refl
+
+  outcome_comes : (c : Operator) → Made (step (Call.operate q c) s)
+  unfolding outcome
+  outcome_comes (Operator.copy src dst) = made _ (copy_comes s q src dst)
+  outcome_comes (Operator.null dst) = made _ (null_comes s q dst)
+  outcome_comes (Operator.restrict src dst mask) = made _ (restrict_comes s q src dst mask)
+  outcome_comes (Operator.amplify ctl src dst) = made _ (amplify_comes s q ctl src dst)
+  outcome_comes (Operator.create dst n k) = made _ (create_comes s q dst n k)
+  outcome_comes (Operator.typed ctl dst n k) = made _ (typed_comes s q ctl dst n k)
+  outcome_comes (Operator.refine src dst byte bytes slot slots) = made _ (refine_comes s q src dst byte bytes slot slots)
+  outcome_comes (Operator.read src offset buffer) = made _ (read_comes s q src offset (length buffer))
+  outcome_comes (Operator.write src offset bs) = made _ (write_comes s q src offset bs)
+  outcome_comes (Operator.see src) = made _ (see_comes s q src)
+  outcome_comes (Operator.look src) = made _ (look_comes s q src)
+  outcome_comes (Operator.call arg k) = made _ (call_comes s q arg k)
+  outcome_comes (Operator.return_result res) = made _ (return_comes s q res)
+
+  pub step_by : (c : Operator) (X : State → Type 0) → X s → ((x : Effect) → Comes s q x → X (apply x s)) → X (step (Call.operate q c) s)
+  step_by c X kept moved =
+      elim (outcome_comes c) [
+        | inl same ↦ subst X (sym same) kept
+        | inr e ↦ subst X (sym e.1.1) (moved e.0 e.1.0)
+      ]
 
 module _ (s : State) (g : Sound s) where
   written_sound : (a : ℕ) (bs : List ℕ) → InData s a (length bs) → Sound (overwrite a bs s)
@@ -99,20 +134,7 @@ module _ (s : State) (g : Sound s) where
   load_sound Load.seal = done_sound _ (seal_fits s g)
 
   operator_sound : (q : ℕ) (c : Operator) → Sound (step (Call.operate q c) s)
-  unfolding outcome
-  operator_sound q (Operator.copy src dst) = done_sound _ (copy_fits s g q src dst)
-  operator_sound q (Operator.null dst) = done_sound _ (null_fits s g q dst)
-  operator_sound q (Operator.restrict src dst mask) = done_sound _ (restrict_fits s g q src dst mask)
-  operator_sound q (Operator.amplify ctl src dst) = done_sound _ (amplify_fits s g q ctl src dst)
-  operator_sound q (Operator.create dst n k) = done_sound _ (create_fits s g q dst n k)
-  operator_sound q (Operator.typed ctl dst n k) = done_sound _ (typed_fits s g q ctl dst n k)
-  operator_sound q (Operator.refine src dst byte bytes slot slots) = done_sound _ (refine_fits s g q src dst byte bytes slot slots)
-  operator_sound q (Operator.read src offset buffer) = done_sound _ (read_fits s g q src offset (length buffer))
-  operator_sound q (Operator.write src offset bs) = done_sound _ (write_fits s g q src offset bs)
-  operator_sound q (Operator.see src) = done_sound _ (see_fits s g q src)
-  operator_sound q (Operator.look src) = done_sound _ (look_fits s g q src)
-  operator_sound q (Operator.call arg k) = done_sound _ (call_fits s g q arg k)
-  operator_sound q (Operator.return_result res) = done_sound _ (return_fits s g q res)
+  operator_sound q c = step_by s q c Sound g (λ x from. effect_sound x (comes_fits s g q x from))
 
   pub step_sound : (c : Call) → Sound (step c s)
   step_sound (Call.load c) = load_sound c

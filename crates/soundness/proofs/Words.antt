@@ -66,7 +66,7 @@ decode_encode d b =
     let z : (decode (encode d)).rights ≡ d.rights = rw q (omega (arith, b.rights)) in
     rw (x, y, z)
 
-pub encode_valid : (d : Descriptor) → IsSmall d → valid (encode d) ≡ true
+encode_valid : (d : Descriptor) → IsSmall d → valid (encode d) ≡ true
 unfolding valid encode
 encode_valid d b =
     let set : encode d / 16777216 % 2 ≡ 1 = omega (arith, b.table, b.index, b.rights) in
@@ -77,7 +77,7 @@ pub encode_small : (d : Descriptor) → IsSmall d → encode d < 4294967296
 unfolding encode
 encode_small d b = omega (arith, b.table, b.index, b.rights)
 
-pub decode_small : (w : ℕ) → IsSmall (decode w)
+decode_small : (w : ℕ) → IsSmall (decode w)
 unfolding decode
 decode_small w = record { table = omega arith; index = omega arith; rights = omega arith }
 

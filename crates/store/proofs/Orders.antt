@@ -272,6 +272,12 @@ runs_end s t i o b k = go (slice_get (table s t).entries i) refl b k
     go (Some (Refined r)) e b k = part_ends r (entry s r.table r.index) (all_fit_at t i (table s t).entries (Refined r) (o.entries t) e)
     go None e b k = (omega arith, omega arith)
 
+-- an entry fits its table
+pub entry_fits : (s : State) (t i : ℕ) (x : Option Entry) → IsOrderly s → x ≡ entry s t i → IfSome x (λ e. fits_table t e ≡ true)
+unfolding entry
+entry_fits s t i (Some e) o is = all_fit_at t i (table s t).entries e (o.entries t) (sym is)
+entry_fits s t i None o is = tt
+
 -- what changes neither tables nor stacks
 pub orderly_sealed : (s : State) → IsOrderly s → IsOrderly (sealing s)
 unfolding sealing table stack

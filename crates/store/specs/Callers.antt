@@ -1,7 +1,8 @@
 -- What a call has found of the task that makes it, and of a word. Assumes nothing.
-use Rattle.std.specs.Prelude.{◌≡◌, Some, None, Option}
+use Rattle.std.specs.Prelude.{◌≡◌, true, Some, None, Option}
 use Rattle.rules.specs.State.{State, entry, shown}
 use Rattle.rules.specs.declared.shown.Descriptor.{Descriptor}
+use Rattle.store.specs.Orderly.{fits_table}
 use Rattle.store.specs.declared.caller.Operand.{Operand}
 use Rattle.store.specs.declared.words.Found.{Found}
 
@@ -9,9 +10,9 @@ use Rattle.store.specs.declared.words.Found.{Found}
 abbrev pub Stands : State → Operand → Type 0
 Stands s o = shown s o.task o.context ≡ o.here
 
--- a descriptor was found with the entry that it names
+-- a descriptor was found with the entry that it names, which fits its table
 abbrev pub Names : State → Found → Type 0
-Names s f = entry s f.descriptor.table f.descriptor.index ≡ Some f.entry
+Names s f = (entry s f.descriptor.table f.descriptor.index ≡ Some f.entry) × (fits_table f.descriptor.table f.entry ≡ true)
 
 abbrev pub descriptor_of : Option Found → Option Descriptor
 descriptor_of (Some f) = Some f.descriptor

@@ -5,10 +5,11 @@ use Rattle.rules.specs.declared.entry.Entry.{Entry}
 use Rattle.rules.specs.declared.entry.Entry.TheVariants.{Object, Control, Refined}
 use Rattle.rules.specs.State.{State, block_start, stack, table}
 
--- the bytes of a storage object of table t begin in its block or at its end, and the runs of a refinement end below 65,536
+-- the bytes of a storage object of table t begin in its block or at its end, a type control adds rights that there are, and the
+-- runs of a refinement end below 65,536
 abbrev pub fits_table : ℕ → Entry → Bool
 fits_table t (Object o) = nat_le (block_start t + 4 * o.slots) o.base && nat_le (o.base - 4 * o.slots - block_start t) 2048
-fits_table t (Control c) = true
+fits_table t (Control c) = nat_le c.rights 63
 fits_table t (Refined r) = nat_lt (r.byte + r.bytes) 65536 && nat_lt (r.slot + r.slots) 65536
 
 unfoldable pub all_fit : ℕ → List Entry → Bool

@@ -2,7 +2,7 @@
 // the fault of its place.
 ghost use Rattle.rules.specs.Code.{weight};
 ghost use Rattle.rules.specs.Tests.{control, destination, source, source_or_null, source_with};
-ghost use Rattle.std.specs.Prelude.{◌≡◌, IfOk, IfErr, IfSome, Ok, Err};
+ghost use Rattle.std.specs.Prelude.{◌≡◌, ◌<◌, IfOk, IfErr, IfSome, Ok, Err};
 ghost use Rattle.store.specs.Callers.{Names, Stands, descriptor_of};
 
 use crate::caller::Operand;
@@ -62,7 +62,8 @@ impl<B: Bank> Store<B> {
     #[tactic(auto, unfolding(rules::specs::Tests::control))]
     pub(crate) fn type_control(&self, right: Right, operand: &Operand) -> Result<TypeControl, Fault>
         requires { Stands self.now operand.now }
-        ensures { result ≡ control (weight right) self.now operand.now.task operand.now.context operand.now.place operand.now.selector }
+        ensures value { result ≡ control (weight right) self.now operand.now.task operand.now.context operand.now.place operand.now.selector }
+        ensures rights { IfOk result (λ k. k.rights < 64) }
     {
         let Entry::Control(control) = self.source_with(right, operand)?.entry else {
             return Err(operand.refusal(Reason::WrongType));

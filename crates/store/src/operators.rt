@@ -1,7 +1,7 @@
 // The operators. Each makes all its tests before it changes anything, and reads like its definition, test for test, so that
 // read and write repeat four statements. see and look answer tuples of plain numbers, as their callers have always been told.
 ghost use Rattle.rules.specs.Effects.{done};
-ghost use Rattle.rules.specs.Operators.{call_plan, copy_plan, create_plan, look_plan, null_plan, read_plan, refine_plan, restrict_plan, return_plan, see_plan, typed_plan, write_plan};
+ghost use Rattle.rules.specs.Operators.{amplify_plan, call_plan, copy_plan, create_plan, look_plan, null_plan, read_plan, refine_plan, restrict_plan, return_plan, see_plan, typed_plan, write_plan};
 ghost use Rattle.store.specs.Answers.{listed, received, seen};
 ghost use Rattle.std.specs.Prelude.{◌≡◌, length};
 
@@ -65,6 +65,35 @@ impl<B: Bank> Store<B> {
             entry: found.entry,
         };
         self.store(&caller, &restricted, place)
+    }
+
+    // Stores the source's descriptor in the destination, with the rights that it has and those that a type control adds.
+    #[tactic(auto, unfolding(rules::specs::Operators::amplify_plan))]
+    pub fn amplify(
+        &mut self,
+        task: u32,
+        control: u16,
+        source: u16,
+        destination: u16,
+    ) -> Result<(), Fault>
+        ensures { (result, self.new) ≡ done self.old (amplify_plan task control source destination self.old) }
+    {
+        let caller = self.caller(task)?;
+        let control = self.type_control(Right::Type2, &caller.operand(1, control))?;
+        let operand = caller.operand(2, source);
+        let found = self.source(&operand)?;
+        operand.demand(found.entry.kind() == control.kind, Reason::WrongType)?;
+        let place = self.destination(&caller.operand(3, destination))?;
+        // The six lowest bits are all that the control adds: a store has no control with more.
+        let added = Rights::low(control.rights as u32);
+        let amplified = Found {
+            descriptor: Descriptor {
+                rights: found.descriptor.rights | added,
+                ..found.descriptor
+            },
+            entry: found.entry,
+        };
+        self.store(&caller, &amplified, place)
     }
 
     // Makes a generic storage object of a task at its level, and names it in the destination.

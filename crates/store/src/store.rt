@@ -6,7 +6,7 @@ ghost use Rattle.rules.specs.Operators.{calling as calling_of};
 ghost use Rattle.bank.specs.Words.{word_at, word_bytes};
 ghost use Rattle.rules.specs.State.{empty, entry as entry_at, level as level_of, shown as shown_at, stack as stack_at};
 ghost use Rattle.rules.specs.Tests.{current as current_of};
-ghost use Rattle.store.specs.Orderly.{is_object};
+ghost use Rattle.store.specs.Orderly.{fits_table, is_object};
 
 use bank::Bank;
 use rules::entry::Entry;
@@ -64,6 +64,7 @@ impl<B: Bank> Store<B> {
     pub(crate) fn entry(&self, table: u32, index: u32) -> Option<Entry>
         ensures value { result ≡ entry_at self.now table index }
         ensures bound { OnSome result ((table < 9) × (index < 64)) }
+        ensures fits { IfSome result (λ e. fits_table table e ≡ true) }
     {
         self.directory.entry(table, index)
     }

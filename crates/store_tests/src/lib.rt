@@ -115,4 +115,51 @@ mod tests {
         assert_eq!(rt; store.see(3, 8), Ok(Some((3, 1, 63))));
         Ok(())
     }
+
+    #[test]
+    fn amplify_adds_rights_and_faults_in_all_parts(rt: HostRuntime) -> Result<(), Fail> {
+        let mut memory = vec![in rt.alloc(); 0xaau8; 18432]?;
+        let mut store = Store::new(PlainBank::new(memory.as_mut_slice()));
+        assert!(rt; store.task(1, 8).is_ok());
+        assert!(rt; store.place(0, 2, 1, 16).is_ok());
+        assert!(rt; store.place(0, 2, 0, 17).is_ok());
+        assert!(rt; store.control(0, 16, 36).is_ok());
+        assert!(rt; store.grant(1, 0, 0, 0, 2, 8).is_ok());
+        assert!(rt; store.grant(1, 0, 1, 0, 0, 3).is_ok());
+        assert!(rt; store.grant(1, 0, 2, 0, 1, 3).is_ok());
+        assert!(rt; store.grant(1, 0, 3, 0, 2, 55).is_ok());
+        assert!(rt; store.seal().is_ok());
+        assert!(rt; store.amplify(1, 0, 4, 16).is_ok());
+        assert_eq!(rt; store.see(1, 16), Ok(Some((0, 0, 39))));
+        assert_eq!(rt; store.see(1, 4), Ok(Some((0, 0, 3))));
+        assert_eq!(rt; parts_of(store.amplify(2, 0, 4, 20)), Some((3, 2, 0, 0)));
+        assert_eq!(rt; parts_of(store.amplify(1, 12, 4, 20)), Some((9, 1, 1, 12)));
+        assert_eq!(rt; parts_of(store.amplify(1, 4, 4, 20)), Some((9, 1, 1, 4)));
+        assert_eq!(rt; parts_of(store.amplify(1, 0, 24, 20)), Some((8, 1, 2, 24)));
+        assert_eq!(rt; parts_of(store.amplify(1, 0, 8, 20)), Some((10, 1, 2, 8)));
+        assert_eq!(rt; parts_of(store.amplify(1, 0, 4, 8)), Some((11, 1, 3, 8)));
+        assert_eq!(rt; store.see(1, 20), Ok(None));
+        Ok(())
+    }
+
+    #[test]
+    fn amplify_keeps_levels_apart(rt: HostRuntime) -> Result<(), Fail> {
+        let mut memory = vec![in rt.alloc(); 0u16; 18432]?;
+        let mut store = Store::new(CodedBank::new(memory.as_mut_slice()));
+        assert!(rt; store.task(3, 8).is_ok());
+        assert!(rt; store.place(0, 0, 2, 0).is_ok());
+        assert!(rt; store.control(0, 20, 3).is_ok());
+        assert!(rt; store.grant(0, 0, 0, 0, 1, 12).is_ok());
+        assert!(rt; store.grant(3, 0, 1, 0, 0, 63).is_ok());
+        assert!(rt; store.grant(3, 0, 4, 0, 0, 63).is_ok());
+        assert!(rt; store.seal().is_ok());
+        assert_eq!(rt; parts_of(store.amplify(3, 16, 1, 20)), Some((10, 3, 1, 16)));
+        assert!(rt; store.typed(3, 1, 20, 4, 0).is_ok());
+        assert!(rt; store.restrict(3, 20, 24, 0).is_ok());
+        assert_eq!(rt; parts_of(store.amplify(3, 1, 24, 5)), Some((13, 3, 0, 0)));
+        assert!(rt; store.amplify(3, 1, 24, 28).is_ok());
+        assert_eq!(rt; store.see(3, 28), Ok(Some((3, 1, 3))));
+        assert!(rt; store.write(3, 28, 3, &[7]).is_ok());
+        Ok(())
+    }
 }

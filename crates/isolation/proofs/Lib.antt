@@ -1,0 +1,14 @@
+pub mod Alikes
+pub mod Apart
+pub mod Both
+pub mod Effects
+pub mod Equal
+pub mod Given
+pub mod Growth
+pub mod Matches
+pub mod More
+pub mod Moves
+pub mod Runs
+pub mod Same
+pub mod Sides
+pub mod Starts

@@ -1,0 +1,4 @@
+pub mod Coded
+pub mod Reach
+pub mod Share
+pub mod Theorem
