@@ -283,20 +283,20 @@ module _ (P : ℕ) (s u : State) (m : Matches (only P) s u) (same : table s P �
       rw (calling_named b from, named_level x h, calling_shown b from) refl)))
 
   -- equal plans answer the same and have the same effect
-  module _ (X : State → State → Type 0) (kept : X s u) (moved : (x : Effect) → Comes s P x → Comes u P x → X (apply x s) (apply x u)) where
+  module _ (X : State → State → Type 0) (moved : (x : Effect) → Comes s P x → Comes u P x → X (apply x s) (apply x u)) where
     abbrev Same : Outcome × State → Outcome × State → Type 0
     Same a b = (a.0 ≡ b.0) × X a.1 b.1
 
     told_same : {Y : Type 0} (f : Y → Answer) (r r' : Result (Planned Y) Fault) → r ≡ r' → Coming s P r → Coming u P r' → Same (unbuffered (answering f (done s r))) (unbuffered (answering f (done u r')))
     told_same f (Ok p) r' e from from' = rw (← e) (refl, moved p.effect from (rw (← e) at from'))
-    told_same f (Err x) r' e from from' = rw (← e) (refl, kept)
+    told_same f (Err x) r' e from from' = rw (← e) (refl, moved keep Comes.keeps Comes.keeps)
 
     done_same : (r r' : Result (Planned (Unit {0})) Fault) → r ≡ r' → Coming s P r → Coming u P r' → Same (plainly (done s r)) (plainly (done u r'))
     done_same = told_same (λ _. Done)
 
     filled_same : (before : List ℕ) (r r' : Result (Planned (List ℕ)) Fault) → r ≡ r' → Coming s P r → Coming u P r' → Same (filling before (done s r)) (filling before (done u r'))
     filled_same before (Ok p) r' e from from' = rw (← e) (refl, moved p.effect from (rw (← e) at from'))
-    filled_same before (Err x) r' e from from' = rw (← e) (refl, kept)
+    filled_same before (Err x) r' e from from' = rw (← e) (refl, moved keep Comes.keeps Comes.keeps)
 
     calls_same : (c : Operator) → Same (outcome (operate P c) s) (outcome (operate P c) u)
     unfolding outcome
@@ -315,8 +315,8 @@ module _ (P : ℕ) (s u : State) (m : Matches (only P) s u) (same : table s P �
     calls_same (Operator.return_result res) = done_same _ _ (return_same res) (return_comes s P res) (return_comes u P res)
 
   pub same_outcome : (c : Operator) → (outcome (operate P c) s).0 ≡ (outcome (operate P c) u).0
-  same_outcome c = (calls_same (λ _ _. Unit {0}) tt (λ _ _ _. tt) c).0
+  same_outcome c = (calls_same (λ _ _. Unit {0}) (λ _ _ _. tt) c).0
 
-  -- what holds of the two states holds of them after the call, if each effect keeps it
-  pub step_both : (X : State → State → Type 0) (c : Operator) → X s u → ((x : Effect) → Comes s P x → Comes u P x → X (apply x s) (apply x u)) → X (step (operate P c) s) (step (operate P c) u)
-  step_both X c kept moved = (calls_same X kept moved c).1
+  -- what holds of the two states after any effect holds of them after the call
+  pub step_both : (X : State → State → Type 0) (c : Operator) → ((x : Effect) → Comes s P x → Comes u P x → X (apply x s) (apply x u)) → X (step (operate P c) s) (step (operate P c) u)
+  step_both X c moved = (calls_same X moved c).1

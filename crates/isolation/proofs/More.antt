@@ -1,11 +1,12 @@
 -- A list of calls with one call more.
 -- Assumes nothing.
 use Rattle.std.proofs.Common.{◌≡◌, ℕ, ◌+◌, ◌<◌, Bool, true, false, cond, ◌==◌, List, [], ◌∷◌, ◌++◌, length, map, take, get_or, refl, ap, ◌∙◌}
-use Rattle.std.proofs.lemmas.List.{map-append, take_more}
+use Rattle.std.proofs.lemmas.List.{map-append}
 use Rattle.rules.specs.State.{State}
 use Rattle.runs.specs.Calls.{Outcome, run}
+use Rattle.runs.proofs.More.{map_more, run_more}
 use Rattle.isolation.specs.Coded.{operator_call_of}
-use Rattle.isolation.specs.Theorem.{OperatorCall, after, flown, outcome_by, outcomes_of}
+use Rattle.isolation.specs.Theorem.{OperatorCall, after, call_by, flown, outcome_by, outcomes_of}
 use Rattle.isolation.specs.declared.call.OperatorCall.{OperatorCall as CodedCall}
 
 -- what one call adds to the outcomes of a task
@@ -14,9 +15,7 @@ kept P c o = cond (c.task == P) (o ∷ []) []
 
 module _ (P : ℕ) (c : OperatorCall) where
   flown_more : (cs : List OperatorCall) (s : State) → flown (cs ++ c ∷ []) s ≡ after c (flown cs s)
-  unfolding run
-  flown_more [] s = refl
-  flown_more (b ∷ cs) s = flown_more cs (after b s)
+  flown_more cs s = ap (λ ds. run ds s) (map-append call_by cs (c ∷ [])) ∙ run_more (call_by c) (map call_by cs) s
 
   outcomes_more : (cs : List OperatorCall) (s : State) → outcomes_of P (cs ++ c ∷ []) s ≡ outcomes_of P cs s ++ kept P c (outcome_by c (flown cs s))
   unfolding outcomes_of run
@@ -29,15 +28,12 @@ module _ (P : ℕ) (c : OperatorCall) where
 
 -- the first i calls were made, and then one more
 module _ (P : ℕ) (xs : List CodedCall) (i : ℕ) (d : CodedCall) (less : i < length xs) (s u v : State) (o : Outcome) (so_far : u ≡ flown (map operator_call_of (take i xs)) s) (made : ◌≡◌ {A = Outcome × State} (o, v) (outcome_by (operator_call_of (get_or xs i d)) u, after (operator_call_of (get_or xs i d)) u)) where
-  one_more : map operator_call_of (take (i + 1) xs) ≡ map operator_call_of (take i xs) ++ operator_call_of (get_or xs i d) ∷ []
-  one_more = ap (map operator_call_of) (take_more xs i d less) ∙ map-append operator_call_of (take i xs) (get_or xs i d ∷ [])
-
   pub then_flown : v ≡ flown (map operator_call_of (take (i + 1) xs)) s
-  then_flown = rw (one_more, flown_more P (operator_call_of (get_or xs i d)) (map operator_call_of (take i xs)) s, ← so_far) (ap (λ (x : Outcome × State). x.1) made)
+  then_flown = rw (map_more operator_call_of xs i d less, flown_more P (operator_call_of (get_or xs i d)) (map operator_call_of (take i xs)) s, ← so_far) (ap (λ (x : Outcome × State). x.1) made)
 
   pub then_outcomes : (os : List Outcome) → os ≡ outcomes_of P (map operator_call_of (take i xs)) s → os ++ kept P (operator_call_of (get_or xs i d)) o ≡ outcomes_of P (map operator_call_of (take (i + 1) xs)) s
   then_outcomes os e =
-      rw (one_more, outcomes_more P (operator_call_of (get_or xs i d)) (map operator_call_of (take i xs)) s, ← so_far, ← e)
+      rw (map_more operator_call_of xs i d less, outcomes_more P (operator_call_of (get_or xs i d)) (map operator_call_of (take i xs)) s, ← so_far, ← e)
       (ap (λ (x : Outcome × State). os ++ kept P (operator_call_of (get_or xs i d)) x.0) made)
 
 pub map_kept : {X Y : Type 0} (f : X → Y) (w : Bool) (xs : List X) (x : X) → map f (xs ++ cond w (x ∷ []) []) ≡ map f xs ++ cond w (f x ∷ []) []

@@ -1,6 +1,6 @@
 -- A separate task cannot tell two stores apart: from single calls to lists of calls.
 -- Assumes nothing.
-use Rattle.std.proofs.Common.{◌≡◌, ◌≢◌, ◌⊎◌, ℕ, ◌≤◌, true, List, [], ◌∷◌, length, refl, sym, subst, ◌∙◌, inl, inr, arith, ◌↔◌, Bool, Ok, Err, Result, IfOk, false}
+use Rattle.std.proofs.Common.{◌≡◌, ◌≢◌, ℕ, ◌≤◌, true, List, [], ◌∷◌, length, refl, sym, subst, ◌∙◌, inl, inr, arith, ◌↔◌, Bool, Ok, Err, Result, IfOk, false}
 use Rattle.std.proofs.lemmas.Bool.{cases_eq}
 use Rattle.std.proofs.lemmas.Bool.Decides.{eqb_tells}
 use Rattle.rules.specs.State.{State, table}
@@ -38,53 +38,41 @@ record Like (P : ℕ) (s u : State) : Type 0 where
 swap : (s : State) (A B : Side) → Apart s A B → Apart s B A
 swap s A B f t i on_b on_a = let z = f t i on_a on_b in (z.1, z.0)
 
--- a call that is refused leaves the state, and any other moves it
-call_moved : (s : State) → Sound s → (c : OperatorCall) → (after c s ≡ s) ⊎ Moved s (after c s) c.task
-call_moved s g c = step_by s c.task c.operator (λ u. (u ≡ s) ⊎ Moved s u c.task) (inl refl) (λ x from. inr (comes_moved s c.task x g from))
+-- every call moves the state
+call_moved : (s : State) → Sound s → (c : OperatorCall) → Moved s (after c s) c.task
+call_moved s g c = step_by s c.task c.operator (λ u. Moved s u c.task) (λ x from. comes_moved s c.task x g from)
 
 module _ (P : ℕ) (c : OperatorCall) (s : State) (f : Fine P s) where
   abbrev u : State
   u = after c s
 
+  m : Moved s u c.task
+  m = call_moved s f.sound c
+
   sound_after : Sound u
   sound_after = step_sound s f.sound (operate c.task c.operator)
 
-  -- what holds of the state, and of any that the call moves it to
-  keeps : (X : State → Type 0) → X s → (Moved s u c.task → X u) → X u
-  keeps X same moved = elim (call_moved s f.sound c) [ inl e ↦ subst X (sym e) same | inr m ↦ moved m ]
-
   apart_after : Apart u (only P) (others P)
   apart_after =
-      keeps (λ v. Apart v (only P) (others P)) f.apart (λ m.
       elim (cases_eq c.task P) [
         | inl e ↦ apart_kept s u c.task f.sound sound_after m (only P) (others P) e (λ n. n e) f.apart
         | inr ne ↦ swap u (others P) (only P) (apart_kept s u c.task f.sound sound_after m (others P) (only P) ne ne (swap s (only P) (others P) f.apart))
-      ])
+      ]
 
   fine_after : Fine P u
-  fine_after =
-      record {
-        sound = sound_after;
-        sealed = keeps (λ v. v.sealed ≡ true) f.sealed (λ m. m.sealed ∙ f.sealed);
-        large = keeps (λ v. 18432 ≤ length v.bytes) f.large (λ m. omega (arith, m.size, f.large));
-        apart = apart_after;
-      }
+  fine_after = record { sound = sound_after; sealed = m.sealed ∙ f.sealed; large = omega (arith, m.size, f.large); apart = apart_after }
 
   -- a call of another task
   like_after : c.task ≢ P → Like P s u
   like_after ne =
-      keeps (Like P s) (record { matches = matches_refl (only P) s; same_table = refl }) (λ m.
       record {
         matches = other_matches s u c.task f.sound sound_after m (others P) (only P) ne ne (swap s (only P) (others P) f.apart);
         same_table = sym (m.other_tables P (λ e. ne (sym e)));
-      })
+      }
 
   -- a call of the task itself
   in_share : c.task ≡ P → ChangesOnlyItsShare P s u
-  in_share e = subst (λ q. ChangesOnlyItsShare q s u) e (keeps (ChangesOnlyItsShare c.task s) same (moved_in_share s u c.task))
-    where
-      same : ChangesOnlyItsShare c.task s s
-      same = record { seal = refl; other_tables = λ t ne. refl; other_contexts = λ q ne. refl; size = refl; other_bytes = λ a n. refl }
+  in_share e = subst (λ q. ChangesOnlyItsShare q s u) e (moved_in_share s u c.task m)
 
 module _ (P : ℕ) where
   like_refl : (s : State) → Like P s s
@@ -106,7 +94,7 @@ module _ (P : ℕ) (s u : State) (f : Fine P s) (h : Fine P u) (l : Like P s u) 
 
   like_both : Like P (step (operate P c) s) (step (operate P c) u)
   like_both =
-      step_both P s u l.matches l.same_table f.sound h.sound f.sealed h.sealed f.large h.large (Like P) c l (λ x from from'.
+      step_both P s u l.matches l.same_table f.sound h.sound f.sealed h.sealed f.large h.large (Like P) c (λ x from from'.
       record {
         matches = both_matches P s u l.matches l.same_table f.sound h.sound x from from' (reaches_grows s (apply x s) P f.sound (moved_sound s P f x from) (comes_moved s P x f.sound from) (only P) refl);
         same_table = both_tables P s u l.matches l.same_table f.sound h.sound x from;

@@ -51,10 +51,10 @@ module _ (s : State) (q : ℕ) where
   outcome_comes (Operator.call arg k) = made _ (call_comes s q arg k)
   outcome_comes (Operator.return_result res) = made _ (return_comes s q res)
 
-  pub step_by : (c : Operator) (X : State → Type 0) → X s → ((x : Effect) → Comes s q x → X (apply x s)) → X (step (Call.operate q c) s)
-  step_by c X kept moved =
+  pub step_by : (c : Operator) (X : State → Type 0) → ((x : Effect) → Comes s q x → X (apply x s)) → X (step (Call.operate q c) s)
+  step_by c X moved =
       elim (outcome_comes c) [
-        | inl same ↦ subst X (sym same) kept
+        | inl same ↦ subst X (sym same) (moved keep Comes.keeps)
         | inr e ↦ subst X (sym e.1.1) (moved e.0 e.1.0)
       ]
 
@@ -134,7 +134,7 @@ module _ (s : State) (g : Sound s) where
   load_sound Load.seal = done_sound _ (seal_fits s g)
 
   operator_sound : (q : ℕ) (c : Operator) → Sound (step (Call.operate q c) s)
-  operator_sound q c = step_by s q c Sound g (λ x from. effect_sound x (comes_fits s g q x from))
+  operator_sound q c = step_by s q c Sound (λ x from. effect_sound x (comes_fits s g q x from))
 
   pub step_sound : (c : Call) → Sound (step c s)
   step_sound (Call.load c) = load_sound c

@@ -7,7 +7,7 @@ ghost use Rattle.runs.specs.Calls.{outcomes, run as run_of};
 ghost use Rattle.runs.specs.Coded.{call_of, outcome_of};
 ghost use Rattle.soundness.specs.Sound.{Sound};
 ghost use Rattle.soundness.specs.Theorem.{CallsKeepSound, EmptyIsSound, EveryRunIsSound, StaysSound};
-ghost use Rattle.std.specs.Prelude.{◌≡◌, IfOk, map};
+ghost use Rattle.std.specs.Prelude.{◌≡◌, ℕ, IfOk, IfErr, map, take};
 
 use bank::Bank;
 use runs::answer::Outcome;
@@ -35,6 +35,7 @@ pub fn run<B: Bank>(
 ) -> Result<Vec<Outcome>, AllocError>
     ensures made { IfOk result (λ _. store.new ≡ run_of (map call_of calls.now) store.old) }
     ensures answered { IfOk result (λ os. map outcome_of os.items ≡ outcomes (map call_of calls.now) store.old) }
+    ensures cut_off { IfErr result (λ _. (n : ℕ) × (store.new ≡ run_of (map call_of (take n calls.now)) store.old)) }
     ensures stays_sound { Sound store.old → StaysSound store.new }
 {
     runs::run::run(heap, store, calls)

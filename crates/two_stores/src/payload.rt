@@ -7,6 +7,11 @@ const PAYLOAD: u32 = 2;
 
 const FIRST: u16 = 0;
 
+const SECOND: u16 = 4;
+
+// The first slot of what the second slot names.
+const FIRST_OF_SECOND: u16 = 1;
+
 const FRAME: u16 = 16;
 
 const RECORD: u16 = 20;
@@ -44,8 +49,8 @@ pub(crate) fn quiet() -> [OperatorCall<'static>; 3] {
     ]
 }
 
-// Wrong lengths, a kept descriptor, a full table, and faults.
-fn round() -> [OperatorCall<'static>; 10] {
+// Wrong lengths, a descriptor that is to outlive its object, a full table, and faults.
+fn round() -> [OperatorCall<'static>; 12] {
     [
         Operator::Write {
             source: FRAME,
@@ -66,12 +71,17 @@ fn round() -> [OperatorCall<'static>; 10] {
             size: 9,
             slots: 0,
         },
-        // The frame is its argument here, and the slot is the frame's.
+        // It makes the frame an environment, and would keep the new descriptor in the frame's first slot.
+        Operator::Copy {
+            source: FIRST,
+            destination: SECOND,
+        },
         Operator::Copy {
             source: SCRATCH,
-            destination: FIRST,
+            destination: FIRST_OF_SECOND,
         },
         Operator::Return { res: SCRATCH },
+        Operator::Return { res: FREE },
         Operator::Create {
             destination: FREE,
             size: 60,
