@@ -16,7 +16,8 @@ use Rattle.soundness.specs.Sound.In.{here, below}
 use Rattle.soundness.specs.Sound.NullOrLive.{null}
 use Rattle.soundness.proofs.Changes.{Addable, Adds, AddsContext, AddsPlain}
 use Rattle.soundness.proofs.Words.{word_cleared, word_elsewhere}
-use Rattle.soundness.proofs.Entries.{apart_of, entry_within, slice_get_added, slice_get_before, slice_get_end}
+use Rattle.soundness.proofs.Entries.{apart_of, entry_within, slice_get_added}
+use Rattle.store.proofs.Orders.{slice_get_append, slice_get_end}
 use Rattle.soundness.proofs.Lasts.{Last, contexts_last, inside_lasts, word_lasts}
 
 -- what the stack of table t is to be when the entry e is added
@@ -42,7 +43,7 @@ module _ (s u : State) (t : ℕ) (e : Entry) (a : Adds s u t e) where
       elim (cases_eq v t) [
         | inl c ↦
             let at_t : entry s t i ≡ Some x = rw (← c) h in
-            rw (c, a.entries) (slice_get_before (table s t).entries e i (entry_within s t i x at_t) ∙ at_t)
+            rw (c, a.entries) (slice_get_append (table s t).entries e i (entry_within s t i x at_t) ∙ at_t)
         | inr c ↦ rw (a.others v c) h
       ]
 

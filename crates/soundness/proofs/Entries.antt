@@ -1,6 +1,6 @@
 -- Where the entries of tables stand, and lists of entries that grow or are cut.
 -- Assumes nothing.
-use Rattle.std.proofs.Common.{◌≡◌, ◌≢◌, ℕ, zero, suc, ◌+◌, ◌*◌, ◌<◌, ◌≤◌, List, [], ◌∷◌, ◌++◌, length, get_or, take, Some, None, sym, refl, ◌∙◌, ◌⊎◌, inl, inr, arith, length-append}
+use Rattle.std.proofs.Common.{◌≡◌, ◌≢◌, ℕ, ◌+◌, ◌*◌, ◌<◌, ◌≤◌, List, [], ◌∷◌, ◌++◌, length, get_or, take, Some, None, sym, ◌∙◌, ◌⊎◌, inl, inr, arith, length-append}
 use Rattle.std.proofs.lemmas.Bool.{cases_lt, cases_order}
 use Rattle.std.proofs.lemmas.List.{get_or_past, length-take}
 use Rattle.std.proofs.lemmas.Option.{slice_get_within}
@@ -10,21 +10,13 @@ use Rattle.rules.specs.declared.entry.Entry.TheVariants.{Object}
 use Rattle.rules.specs.declared.entry.Storage.{Storage}
 use Rattle.rules.specs.State.{State, table, stack, entry, no_table, block_start}
 use Rattle.soundness.specs.Sound.{Sound, Takes}
+use Rattle.store.proofs.Orders.{slice_get_append, slice_get_end, slice_get_take}
 
--- what stands before the last element, and that element; beyond it there is nothing, by slice_get_past of the library
-pub slice_get_before : {X : Type 0} (xs : List X) (x : X) (i : ℕ) → i < length xs → slice_get (xs ++ x ∷ []) i ≡ slice_get xs i
-slice_get_before [] x i h = absurd (omega arith)
-slice_get_before (y ∷ xs) x zero h = refl
-slice_get_before (y ∷ xs) x (suc i) h = slice_get_before xs x i (omega arith)
-
-pub slice_get_end : {X : Type 0} (xs : List X) (x : X) → slice_get (xs ++ x ∷ []) (length xs) ≡ Some x
-slice_get_end [] x = refl
-slice_get_end (y ∷ xs) x = slice_get_end xs x
-
-pub slice_get_added : {X : Type 0} (xs : List X) (x y : X) (i : ℕ) → slice_get (xs ++ x ∷ []) i ≡ Some y → ((i ≡ length xs) × (y ≡ x)) ⊎ ((i < length xs) × (slice_get xs i ≡ Some y))
+-- what stands in a list with one entry more
+pub slice_get_added : (xs : List Entry) (x y : Entry) (i : ℕ) → slice_get (xs ++ x ∷ []) i ≡ Some y → ((i ≡ length xs) × (y ≡ x)) ⊎ ((i < length xs) × (slice_get xs i ≡ Some y))
 slice_get_added xs x y i h =
     elim (cases_lt i (length xs)) [
-      | inl less ↦ inr (less, sym (slice_get_before xs x i less) ∙ h)
+      | inl less ↦ inr (less, sym (slice_get_append xs x i less) ∙ h)
       | inr past ↦
           let within : i < length (xs ++ x ∷ []) = slice_get_within (xs ++ x ∷ []) i y h in
           let last : i ≡ length xs = omega (arith, length-append xs (x ∷ [])) in
@@ -33,14 +25,8 @@ slice_get_added xs x y i h =
           inl (last, same)
     ]
 
--- what stands before a cut, and that nothing else does
-pub slice_get_take : {X : Type 0} (n : ℕ) (xs : List X) (i : ℕ) → i < n → slice_get (take n xs) i ≡ slice_get xs i
-slice_get_take zero xs i h = absurd (omega arith)
-slice_get_take (suc n) [] i h = refl
-slice_get_take (suc n) (x ∷ xs) zero h = refl
-slice_get_take (suc n) (x ∷ xs) (suc i) h = slice_get_take n xs i (omega arith)
-
-pub slice_get_cut : {X : Type 0} (n : ℕ) (xs : List X) (i : ℕ) (y : X) → slice_get (take n xs) i ≡ Some y → (i < n) × (slice_get xs i ≡ Some y)
+-- what stands before a cut
+pub slice_get_cut : (n : ℕ) (xs : List Entry) (i : ℕ) (y : Entry) → slice_get (take n xs) i ≡ Some y → (i < n) × (slice_get xs i ≡ Some y)
 slice_get_cut n xs i y h =
     let within = slice_get_within (take n xs) i y h in
     let less : i < n = omega (arith, length-take n xs) in

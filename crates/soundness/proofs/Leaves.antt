@@ -10,7 +10,8 @@ use Rattle.rules.specs.declared.entry.Storage.{Storage}
 use Rattle.rules.specs.State.{State, Table, block_start, entry, kind_of, level, level_of, no_table, shown, stack, table}
 use Rattle.rules.specs.Effects.{leave, popped, with_stack, with_table}
 use Rattle.soundness.specs.Sound.{AreContexts, In, IsContext, Sound, slot_of}
-use Rattle.soundness.proofs.Entries.{slice_get_cut, slice_get_take}
+use Rattle.soundness.proofs.Entries.{slice_get_cut}
+use Rattle.store.proofs.Orders.{slice_get_take}
 use Rattle.soundness.proofs.Lasts.{Last, contexts_last, inside_lasts, word_lasts}
 
 beyond : (c i : ℕ) (cs : List ℕ) → i < c → In i (c ∷ cs) → In i cs

@@ -1,17 +1,13 @@
 -- A store that was just made is sound, and a sound store stays sound when it is sealed.
 -- Assumes nothing.
-use Rattle.std.proofs.Common.{◌≡◌, ℕ, zero, suc, true, List, [], get_or, replicate, Some, None, refl, arith}
+use Rattle.std.proofs.Common.{◌≡◌, ℕ, true, List, [], Some, None, refl, arith}
 use Rattle.rules.specs.declared.entry.Entry.{Entry}
 use Rattle.rules.specs.declared.entry.Entry.TheVariants.{Object, Control, Refined}
 use Rattle.rules.specs.State.{State, empty, entry, level, no_table, stack, table}
 use Rattle.rules.specs.Effects.{sealing}
 use Rattle.soundness.specs.Sound.{Sound}
 use Rattle.soundness.proofs.Overwrites.{retouched_sound}
-
-all_default : {X : Type 0} (n i : ℕ) (x : X) → get_or (replicate n x) i x ≡ x
-all_default zero i x = refl
-all_default (suc n) zero x = refl
-all_default (suc n) (suc i) x = all_default n i x
+use Rattle.store.proofs.Orders.{all_default}
 
 module _ (l : List ℕ) where
   no_entries : (t : ℕ) → table (empty l) t ≡ no_table

@@ -41,16 +41,16 @@ all_fit_at t zero (x ∷ es) e h g =
 all_fit_at t (suc i) (x ∷ es) e h g = all_fit_at t i es e (and_parts (fits_table t x) (all_fit t es) h).1 g
 
 -- what stands before the end, and before the cut
-slice_get_append : (es : List Entry) (e : Entry) (c : ℕ) → c < length es → slice_get (es ++ e ∷ []) c ≡ slice_get es c
+pub slice_get_append : (es : List Entry) (e : Entry) (c : ℕ) → c < length es → slice_get (es ++ e ∷ []) c ≡ slice_get es c
 slice_get_append [] e c h = absurd (omega arith)
 slice_get_append (x ∷ es) e zero h = refl
 slice_get_append (x ∷ es) e (suc c) h = slice_get_append es e c (omega arith)
 
-slice_get_end : (es : List Entry) (e : Entry) → slice_get (es ++ e ∷ []) (length es) ≡ Some e
+pub slice_get_end : (es : List Entry) (e : Entry) → slice_get (es ++ e ∷ []) (length es) ≡ Some e
 slice_get_end [] e = refl
 slice_get_end (x ∷ es) e = slice_get_end es e
 
-slice_get_take : (n : ℕ) (es : List Entry) (c : ℕ) → c < n → slice_get (take n es) c ≡ slice_get es c
+pub slice_get_take : (n : ℕ) (es : List Entry) (c : ℕ) → c < n → slice_get (take n es) c ≡ slice_get es c
 slice_get_take zero es c h = absurd (omega arith)
 slice_get_take (suc n) [] c h = refl
 slice_get_take (suc n) (x ∷ es) zero h = refl
@@ -284,7 +284,7 @@ unfolding sealing table stack
 orderly_sealed s o = record { entries = o.entries; contexts = o.contexts }
 
 -- a store that was just made
-all_default : {X : Type 0} (n i : ℕ) (x : X) → get_or (replicate n x) i x ≡ x
+pub all_default : {X : Type 0} (n i : ℕ) (x : X) → get_or (replicate n x) i x ≡ x
 all_default zero i x = refl
 all_default (suc n) zero x = refl
 all_default (suc n) (suc i) x = all_default n i x
