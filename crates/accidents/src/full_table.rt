@@ -1,10 +1,9 @@
 // A science task that fills its table, while the attitude task creates in the middle of a slew.
 use crate::replay::Replay;
-use crate::selector::slot;
-use bank::plain::PlainBank;
-use rules::fault::Fault;
+use bank::PlainBank;
+use rules::{Fault, slot};
 use std::io;
-use store::store::Store;
+use store::Store;
 
 const ATTITUDE: u32 = 1;
 

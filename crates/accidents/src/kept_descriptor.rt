@@ -1,15 +1,12 @@
-// A payload that keeps a descriptor after its object has ended, while the place goes to a filter state.
+// A payload that keeps a descriptor after its object has ended, while the place goes to a filter
+// state.
 use crate::replay::Replay;
-use crate::selector::slot;
-use bank::plain::PlainBank;
-use rules::fault::Fault;
+use bank::PlainBank;
+use rules::{Fault, slot, slot_of};
 use std::io;
-use store::store::Store;
+use store::Store;
 
 const TASK: u32 = 1;
-
-// The selector of slot 0 of what slot 1 names.
-const KEPT: u16 = 1;
 
 pub(crate) fn steps(replay: &mut Replay) -> io::Result<()> {
     replay.step(
@@ -40,7 +37,7 @@ pub(crate) fn steps(replay: &mut Replay) -> io::Result<()> {
         |store| store.copy(TASK, slot(0), slot(1)),
     )?;
     replay.step("it writes through what was kept there", |store| {
-        store.write(TASK, KEPT, 0, &[0; 4])
+        store.write(TASK, slot_of(1, 0), 0, &[0; 4])
     })?;
     replay.step("it returns", |store| store.return_result(TASK, slot(3)))?;
     replay.show_bytes(
@@ -60,7 +57,8 @@ fn load(store: &mut Store<PlainBank>) -> Result<(), Fault> {
     store.seal()
 }
 
-// The routine runs once: it makes its scratch object, tries to keep a descriptor of it in two ways, and returns.
+// The routine runs once: it makes its scratch object, tries to keep a descriptor of it in two ways,
+// and returns.
 fn keep(replay: &mut Replay) -> io::Result<()> {
     replay.step(
         "the payload routine is called, with the object for keeping",
@@ -77,7 +75,7 @@ fn keep(replay: &mut Replay) -> io::Result<()> {
     )?;
     replay.step(
         "it copies the descriptor into it",
-        |store| store.copy(TASK, slot(2), KEPT),
+        |store| store.copy(TASK, slot(2), slot_of(1, 0)),
     )?;
     replay.step("it returns the descriptor as its result", |store| {
         store.return_result(TASK, slot(2))

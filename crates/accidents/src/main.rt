@@ -1,11 +1,10 @@
-// Three accidents of earlier stores, replayed on this one. Each step is printed, and each ends with what had to stay intact
-// and with the faults on the log.
+// Three accidents of earlier stores, replayed on this one. Each step is printed, and each ends with
+// what had to stay intact and with the faults on the log.
 #![tactic(auto)]
 
 mod full_table;
 mod kept_descriptor;
 mod replay;
-mod selector;
 mod wrong_length;
 
 use replay::run;

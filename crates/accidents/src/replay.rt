@@ -1,10 +1,9 @@
 // A replay: a store over a plain bank, whose calls are printed as steps, and the log of its faults.
-use bank::plain::PlainBank;
-use rules::fault::Fault;
+use bank::PlainBank;
+use rules::Fault;
 use std::io;
-use store::store::{SMALLEST_BANK, Store};
+use store::{SMALLEST_BANK, Store};
 
-// The bank is a plain one, since the bound of a closure cannot name a store over any bank.
 #[derive(Drop)]
 pub(crate) struct Replay<'a> {
     pub(crate) rt: &'a HostRuntime,
@@ -21,7 +20,7 @@ pub(crate) fn run<F: FnOnce(&mut Replay) -> io::Result<()>>(
     requires { F.IsAlwaysCallable steps }
 {
     println!(rt; "{title}")?;
-    let mut memory = vec![in rt.alloc(); 0u8; SMALLEST_BANK as usize]?;
+    let mut memory = vec![in rt.alloc(); 0u8; SMALLEST_BANK]?;
     let mut replay = Replay::new(rt, memory.as_mut_slice());
     steps(&mut replay)?;
     replay.print_faults()

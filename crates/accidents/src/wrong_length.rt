@@ -1,11 +1,10 @@
 // A camera with a wrong length next to a magnetometer record.
 use crate::replay::Replay;
-use crate::selector::slot;
-use bank::plain::PlainBank;
+use bank::PlainBank;
 use magnetometer::Record;
-use rules::fault::Fault;
+use rules::{Fault, slot};
 use std::io;
-use store::store::Store;
+use store::Store;
 
 const ATTITUDE: u32 = 1;
 
@@ -33,7 +32,8 @@ pub(crate) fn steps(replay: &mut Replay) -> io::Result<()> {
     show_record(replay)
 }
 
-// The frame and the record lie next to each other in the common table. Each task has its own in slot 0.
+// The frame and the record lie next to each other in the common table. Each task has its own in
+// slot 0.
 fn load(store: &mut Store<PlainBank>) -> Result<(), Fault> {
     store.task(ATTITUDE, 4)?;
     store.task(CAMERA, 4)?;

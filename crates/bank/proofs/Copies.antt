@@ -1,5 +1,4 @@
 -- Runs, words and single bytes of units in lent memory. Of a run, f is where it begins inside the bank, and k how many of it lie there.
--- Assumes nothing.
 use Rattle.std.proofs.Common.{append-nil, ◌≡◌, ℕ, ◌+◌, ◌-◌, ◌<◌, ◌≤◌, min, List, [], ◌∷◌, ◌++◌, length, map, set, get_or, take, drop, replicate, sym, refl, ap, ◌∙◌, arith}
 use borrow.Rule.Slice.PartMut.{put_mid}
 use Rattle.std.proofs.lemmas.List.{length-take-le, length-drop, length-map, take-map, get_or-take, get_or-drop}

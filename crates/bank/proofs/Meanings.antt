@@ -1,5 +1,4 @@
 -- Units that mean bytes: what is written as the units of bytes reads as those bytes.
--- Assumes nothing.
 use Rattle.std.proofs.Common.{◌≡◌, ℕ, zero, suc, ◌<◌, List, [], ◌∷◌, map, length, get_or, take, drop, set, replicate, sym, refl, ap, ◌∙◌, lit<, arith}
 use Rattle.std.proofs.lemmas.List.{length-map, map-set, take-map, drop-map}
 use Rattle.bank.specs.Runs.{write_run}

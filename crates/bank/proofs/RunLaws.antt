@@ -1,5 +1,4 @@
 -- The laws of reading and writing a run of bytes.
--- Assumes nothing.
 use Rattle.std.proofs.Common.{append-nil, ◌≡◌, ℕ, zero, suc, ◌+◌, ◌-◌, ◌<◌, ◌≤◌, min, ◌≢◌, List, [], ◌∷◌, ◌++◌, length, get_or, take, drop, set, replicate, sym, refl, ap, ◌∙◌, inl, inr, le_of_suc-le-suc, not-suc-le-zero, add-zero, add-suc, suc-add, zero-add, add-one, arith}
 use borrow.Rule.Slice.PartMut.{put_mid}
 use Rattle.std.proofs.lemmas.List.{length-set, get_or-set_same, get_or-set_other, set_past, get_or_past, same_lists, get_or_default, take_more, take-append-drop, drop_all, length-take-le, length-append, length-replicate, append_assoc, drop-drop, drop-set-lt, take_more_set, get_or_append_left, get_or-append_right, get_or-replicate, replicate_more, take-replicate}

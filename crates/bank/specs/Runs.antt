@@ -1,4 +1,4 @@
--- What reading and writing a run of bytes means on the list of bytes of a bank. Assumes nothing.
+-- What reading and writing a run of bytes means on the list of bytes of a bank.
 use Rattle.std.specs.Prelude.{ℕ, zero, suc, List, [], ◌∷◌, slice_index, slice_set}
 
 -- the n bytes from address a on; at and beyond the end of the list each reads as 0

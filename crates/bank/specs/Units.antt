@@ -1,4 +1,4 @@
--- The units of memory that a bank uses. Assumes nothing.
+-- The units of memory that a bank uses.
 use Rattle.std.specs.Prelude.{◌≡◌, List, take, drop}
 use Rattle.std.specs.Borrow.{MutBor}
 
@@ -10,7 +10,8 @@ used l = take 65536 l
 unfoldable pub unused : {X : Type 0} → List X → List X
 unused l = drop 65536 l
 
--- after a write to lent memory the units used are these, the loan is the same, and the other units are as they were
+-- after a write to lent memory the units used are these, the loan is the same, and the other units
+-- are as they were
 pub record Rewrites {X : Type 0} (old new : MutBor (List X)) (units : List X) : Type 0 where
   pub coded : used new.now ≡ units
   pub lent : new.ghost_name ≡ old.ghost_name

@@ -1,5 +1,4 @@
-// The coded bank: one byte in each 16-bit word of the memory that is lent to it, as its code word.
-// A byte is read although one of the twelve bits of its word has turned.
+// The coded bank: one byte in each 16-bit word of memory, as its code word.
 ghost use Rattle.hamming.specs.Code.{code_word, decoded};
 ghost use Rattle.hamming.proofs.Corrects.{word_back};
 ghost use Rattle.std.specs.Prelude.{◌≡◌, map};
@@ -7,6 +6,8 @@ ghost use Rattle.std.proofs.Common.{refl};
 
 use crate::lent::{LentBank, Unit};
 
+/// A bank that keeps each byte as a 16-bit code word. A byte is read although one bit of its word
+/// has flipped.
 pub type CodedBank<'a> = LentBank<'a, u16>;
 
 impl Unit for u16 {

@@ -5,8 +5,12 @@ ghost use Rattle.bank.specs.Words.{word_bytes};
 ghost use Rattle.std.specs.Prelude.{◌≡◌, ℕ, ◌<◌, List, length, map, replicate, slice_set};
 
 use crate::{Bank, units};
+use std::fmt;
 
-// A unit of memory that holds one byte.
+/// A unit of memory that holds one byte: a `u8` the byte itself, a `u16` its code word.
+///
+/// A new unit says what byte it means and what unit a byte becomes, and owes that a byte comes back
+/// from its unit. Runs come with the trait, unit by unit.
 pub trait Unit: Copy {
     // The byte that a unit means, and the unit that a byte becomes.
     ghost byte_of: { Self → ℕ };
@@ -18,29 +22,30 @@ pub trait Unit: Copy {
 
     ghost units_of: { List ℕ → List Self };
 
+    /// The byte that the unit means.
     fn decode(self) -> u8
         ensures { result ≡ byte_of self };
 
+    /// The unit that a byte becomes.
     fn encode(byte: u8) -> Self
         ensures { result ≡ unit_of byte };
 
-    // Fills a buffer with the bytes of as many units.
+    /// Fills a buffer with the bytes of as many units.
     fn decode_run(units: &[Self], out: &mut [u8])
         requires { length units.now ≡ length out.old }
         ensures { out.new ≡ bytes_of units.now }
     {
-        // By place, since nothing is known of what a `zip` with `iter_mut` leaves.
         for (i, unit) in units.iter().enumerate() {
             out[i] = unit.decode();
         }
     }
 
-    // Fills units with as many bytes.
+    /// Fills units with as many bytes.
     fn encode_run(units: &mut [Self], source: &[u8])
         requires { length units.old ≡ length source.now }
         ensures { units.new ≡ units_of source.now }
     {
-        // By place, for the same reason, and by fours, which the compiler does not do by itself.
+        // By fours, which the compiler does not do by itself.
         let fours = source.len() / 4;
         for k in 0..fours {
             units[4 * k] = Self::encode(source[4 * k]);
@@ -66,13 +71,25 @@ pub trait Unit: Copy {
     ghost units_each: { (bs : List ℕ) → units_of bs ≡ map unit_of bs };
 }
 
+/// A bank over lent memory, one byte in each unit: a `PlainBank` over bytes, a `CodedBank` over
+/// 16-bit words.
 #[derive(Drop)]
 pub struct LentBank<'a, U: Unit> {
     memory: &'a mut [U],
 }
 
+/// Names the size in place of the memory.
+impl<U: Unit> fmt::Debug for LentBank<'_, U> {
+    fn fmt<W: fmt::Write>(&self, f: &mut fmt::Formatter<W>) -> fmt::Result {
+        f.debug_struct("LentBank")
+            .field("size", &self.size())
+            .finish()
+    }
+}
+
 impl<'a, U: Unit> LentBank<'a, U> {
-    // A bank over the first 65,536 units of the memory, or all if they are fewer.
+    /// A bank over the first 65,536 units of the memory, or all if they are fewer. Its bytes are
+    /// those that the units mean.
     pub fn new(memory: &'a mut [U]) -> Self
         ensures value { result.memory.now ≡ memory.old }
         ensures lent { result.memory.ghost_name ≡ memory.entry.ghost_name }
@@ -107,7 +124,8 @@ impl<'a, U: Unit> LentBank<'a, U> {
     }
 }
 
-// Fills four units with the bytes of a word, which are told by division: the compiler makes one store of them.
+// Fills four units with the bytes of a word, taken by division: the compiler makes one store of
+// them.
 #[inline(always)]
 fn encode_word<U: Unit>(units: &mut [U], word: u32)
     requires { length units.old ≡ 4 }
@@ -135,10 +153,11 @@ impl<U: Unit> Bank for LentBank<'_, U> {
     }
 
     fn write(&mut self, address: u32, byte: u8)
-        ensures means { U.bytes_of (used self.new.memory.now) ≡ slice_set (U.bytes_of (used self.old.memory.now)) address byte }
-        ensures memory { Rewrites self.old.memory self.new.memory (slice_set (used self.old.memory.now) address (U.unit_of byte)) }
+        ensures means { U.bytes_of (used self.new.memory.now)
+            ≡ slice_set (U.bytes_of (used self.old.memory.now)) address byte }
+        ensures memory { Rewrites self.old.memory self.new.memory
+            (slice_set (used self.old.memory.now) address (U.unit_of byte)) }
     {
-        // By place, since nothing is known of what a slice ends as after a `get_mut`.
         let at = address as usize;
         if at < units::count(self.memory.len()) {
             self.memory[at] = U::encode(byte);
@@ -148,7 +167,7 @@ impl<U: Unit> Bank for LentBank<'_, U> {
     fn read_run(&self, address: u32, out: &mut [u8]) {
         let units = units::used(self.memory);
         let at = address as usize;
-        // One byte without a slice, and a run inside without cutting it.
+        // One byte is read without a slice, and a run that lies inside without cutting it.
         if out.len() == 1 {
             out[0] = self.read(address);
         } else if out.len() <= units.len() && at <= units.len() - out.len() {
@@ -162,16 +181,20 @@ impl<U: Unit> Bank for LentBank<'_, U> {
     }
 
     fn write_run(&mut self, address: u32, source: &[u8])
-        ensures means { U.bytes_of (used self.new.memory.now) ≡ write_run (U.bytes_of (used self.old.memory.now)) address source.now }
-        ensures memory { Rewrites self.old.memory self.new.memory (write_run (used self.old.memory.now) address (U.units_of source.now)) }
+        ensures means { U.bytes_of (used self.new.memory.now)
+            ≡ write_run (U.bytes_of (used self.old.memory.now)) address source.now }
+        ensures memory { Rewrites self.old.memory self.new.memory
+            (write_run (used self.old.memory.now) address (U.units_of source.now)) }
     {
         let (from, inside) = units::clip(units::count(self.memory.len()), address, source.len());
         U::encode_run(&mut self.memory[from..from + inside], &source[..inside]);
     }
 
     fn clear_run(&mut self, address: u32, count: u32)
-        ensures means { U.bytes_of (used self.new.memory.now) ≡ write_run (U.bytes_of (used self.old.memory.now)) address (replicate count 0) }
-        ensures memory { Rewrites self.old.memory self.new.memory (write_run (used self.old.memory.now) address (replicate count (U.unit_of 0))) }
+        ensures means { U.bytes_of (used self.new.memory.now)
+            ≡ write_run (U.bytes_of (used self.old.memory.now)) address (replicate count 0) }
+        ensures memory { Rewrites self.old.memory self.new.memory
+            (write_run (used self.old.memory.now) address (replicate count (U.unit_of 0))) }
     {
         let (from, inside) = units::clip(units::count(self.memory.len()), address, count as usize);
         self.memory[from..from + inside].fill(U::encode(0));
@@ -186,8 +209,10 @@ impl<U: Unit> Bank for LentBank<'_, U> {
     #[inline(always)]
     #[tactic(auto, unfolding(crate::specs::Words::word_bytes))]
     fn write_word(&mut self, address: u32, word: u32)
-        ensures means { U.bytes_of (used self.new.memory.now) ≡ write_run (U.bytes_of (used self.old.memory.now)) address (word_bytes word) }
-        ensures memory { Rewrites self.old.memory self.new.memory (write_run (used self.old.memory.now) address (U.units_of (word_bytes word))) }
+        ensures means { U.bytes_of (used self.new.memory.now)
+            ≡ write_run (U.bytes_of (used self.old.memory.now)) address (word_bytes word) }
+        ensures memory { Rewrites self.old.memory self.new.memory
+            (write_run (used self.old.memory.now) address (U.units_of (word_bytes word))) }
     {
         let at = address as usize;
         if at + 4 <= units::count(self.memory.len()) {

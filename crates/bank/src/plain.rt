@@ -1,10 +1,11 @@
-// The plain bank: one byte in each byte of the memory that is lent to it.
+// The plain bank: one byte in each byte of memory.
 ghost use Rattle.std.specs.Prelude.{◌≡◌};
 ghost use Rattle.std.proofs.Common.{refl, sym};
 ghost use Rattle.std.proofs.lemmas.List.{map-id};
 
 use crate::lent::{LentBank, Unit};
 
+/// A bank that keeps each byte as it is.
 pub type PlainBank<'a> = LentBank<'a, u8>;
 
 impl Unit for u8 {

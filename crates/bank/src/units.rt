@@ -1,4 +1,4 @@
-// The units of memory under a bank: which of them it uses, and where an address or a run lies among them.
+// The units of memory under a bank: which of them it uses, and where a run lies among them.
 ghost use Rattle.std.specs.Prelude.{◌≡◌, ◌-◌, min};
 ghost use Rattle.bank.specs.Units.{used};
 
@@ -20,8 +20,7 @@ pub(crate) fn used<T>(lent: &[T]) -> &[T]
     &lent[..count(lent.len())]
 }
 
-// Where a run begins inside a bank, at its address or at the end, and how many of its bytes lie inside. A pair and no `Range`, of
-// which only the length is wanted where the bytes outside are cut off.
+// Where a run begins inside a bank, at its address or at the end, and how many bytes lie inside.
 #[inline(always)]
 pub(crate) fn clip(size: usize, address: u32, wanted: usize) -> (usize, usize)
     ensures from { result.0 ≡ min address size }

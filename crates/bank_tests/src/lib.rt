@@ -3,10 +3,7 @@
 
 #[cfg(test)]
 mod tests {
-    use bank::Bank;
-    use bank::coded::CodedBank;
-    use bank::lent::{LentBank, Unit};
-    use bank::plain::PlainBank;
+    use bank::{Bank, CodedBank, LentBank, PlainBank, Unit};
     use std::process::Abort;
     use std::test::Fail;
 
@@ -26,7 +23,7 @@ mod tests {
     }
 
     #[test]
-    fn words_with_one_bit_turned(rt: HostRuntime) {
+    fn words_that_are_no_code_words(rt: HostRuntime) {
         assert_eq!(rt; hamming::decode(0x006), 0x01);
         assert_eq!(rt; hamming::decode(0x801), 0x80);
         assert_eq!(rt; hamming::decode(0xf006), 0x01);
@@ -49,6 +46,14 @@ mod tests {
             let mut memory = vec![in rt.alloc(); U::encode(0); units]?;
             edge(rt, &mut LentBank::new(memory.as_mut_slice()), size);
         }
+        Ok(())
+    }
+
+    #[test]
+    fn a_bank_prints_its_size(rt: HostRuntime) -> Result<(), Fail> {
+        let mut memory = [7u16; 4];
+        let text = format!(in rt.alloc(); "{:?}", CodedBank::new(&mut memory))?;
+        assert_eq!(rt; text.as_str(), "LentBank { size: 4 }");
         Ok(())
     }
 

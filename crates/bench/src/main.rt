@@ -1,10 +1,11 @@
-// bench BANK WORK COUNT: makes COUNT rounds of one kind of work on a store and prints a checksum of what they answered.
+// bench BANK WORK COUNT: makes COUNT rounds of one kind of work on a store and prints a checksum of
+// what they answered.
 #![tactic(auto)]
 
-use bank::lent::{LentBank, Unit};
-use rules::fault::Fault;
+use bank::{LentBank, Unit};
+use rules::Fault;
 use std::{env, io};
-use store::store::SMALLEST_BANK;
+use store::SMALLEST_BANK;
 
 mod names;
 mod rounds;
@@ -38,7 +39,7 @@ fn main(rt: HostRuntime) -> io::Result<()> {
 
 // Makes the rounds over a bank of these units, all of which mean 0, and prints their checksum.
 fn run<U: Unit>(rt: &HostRuntime, work: Work, count: u32, numbers: Numbers) -> io::Result<()> {
-    let mut memory = vec![in rt.alloc(); U::encode(0); SMALLEST_BANK as usize]?;
+    let mut memory = vec![in rt.alloc(); U::encode(0); SMALLEST_BANK]?;
     print(
         rt,
         sum(LentBank::new(memory.as_mut_slice()), work, count, numbers),

@@ -1,4 +1,4 @@
--- Where two texts part. Assumes nothing.
+-- Where two texts part.
 use Rattle.std.specs.Prelude.{◌≡◌, ℕ, ◌+◌, List, length, take, filter, ◌≢◌, nat_eq}
 
 -- how many lines end in a text

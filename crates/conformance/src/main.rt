@@ -4,7 +4,7 @@
 ghost use Rattle.conformance.specs.Compare.{Parted};
 ghost use Rattle.std.specs.Prelude.{◌≡◌, MatchOption};
 
-use script::whole::answer_script;
+use script::answer_script;
 use std::{fs, io};
 
 fn main(rt: HostRuntime) -> io::Result<()> {

@@ -1,22 +1,22 @@
 -- The listing and the calls after it, one state after the other.
--- Assumes nothing.
-use Rattle.std.proofs.Common.{◌≡◌, ℕ, ◌+◌, ◌≤◌, true, false, List, [], ◌∷◌, length, replicate, Ok, Err, Result, sym, refl, ap, ◌∙◌, arith}
+use Rattle.std.proofs.Common.{◌≡◌, ℕ, ◌+◌, ◌≤◌, true, false, List, [], ◌∷◌, length, replicate, Ok, Err, Result, sym, refl, ap, ◌∙◌, inl, arith}
 use Rattle.bank.specs.Runs.{read_run, write_run}
 use Rattle.bank.proofs.RunLaws.{is_read_run, length-write_run, get_or-write_run_before, get_or-write_run_inside}
+use Rattle.bank.proofs.WordLaws.{word_cleared, word_elsewhere, word_written}
 use Rattle.rules.specs.declared.fault.Fault.{Fault}
 use Rattle.rules.specs.declared.fault.Reason.{Reason}
 use Rattle.rules.specs.declared.fault.Reason.TheVariants.{OutOfRange}
 use Rattle.rules.specs.Faults.{number_of, layer_of, letter_of}
 use Rattle.bank.specs.Words.{word_at, word_bytes}
-use Rattle.rules.specs.State.{State, encode}
+use Rattle.rules.specs.State.{State}
 use Rattle.rules.specs.Tests.{refusal_at}
 use Rattle.rules.specs.Loading.{task_plan, place_plan, grant_plan, seal_plan}
 use Rattle.rules.specs.Operators.{write_plan, read_plan, call_plan, return_plan, create_plan}
+use Rattle.rules.proofs.Words.{encode_small}
 use Rattle.examples.specs.declared.Worked.{Worked}
 use Rattle.examples.specs.Listing.{Plan, Gives, answer, after, tasked, placed, granted, begun, written, read_back, listing, called, returned, created}
 use Rattle.examples.specs.Examples.{Refused, Answers}
-use Rattle.examples.proofs.Words.{word_before, word_inside}
-use Rattle.examples.proofs.Stages.{Usable, usable_35, only, context, loaded, inner, with_new, word, new_word, tasks, places, grants, seals, writes, reads, reads_not, calls, returns, creates}
+use Rattle.examples.proofs.Stages.{Usable, usable_35, small, small_new, only, context, loaded, inner, with_new, descriptor, word, new_descriptor, new_word, tasks, places, grants, seals, writes, reads, reads_not, calls, returns, creates}
 
 -- a call made in a state that is known
 module _ {X : Type 0} (plan : Plan X) {s t : State} (e : s ≡ t) where
@@ -57,8 +57,7 @@ module _ (l : List ℕ) (h : 18432 ≤ length l) where
   placed_is = leads (place_plan 1 2 0 0) tasked_is (places cleared long_cleared)
 
   ready_second : word_at ready 2056 ≡ 0
-  unfolding word_at
-  ready_second = word_before cleared 2064 (replicate 2 0) 2056 (omega arith) ∙ word_inside l 2048 (replicate 16 0) 8 (omega arith) (omega arith)
+  ready_second = word_elsewhere cleared 2064 (replicate 2 0) 2056 (inl (omega arith)) ∙ word_cleared l 2048 16 2056 (omega arith) (omega arith) (omega arith)
 
   module _ (r : ℕ) (u : Usable r) where
     -- after the grant
@@ -76,14 +75,13 @@ module _ (l : List ℕ) (h : 18432 ≤ length l) where
     long_listed = stays named 2065 (7 ∷ []) long_named
 
     named_first : word_at named 2060 ≡ word r
-    unfolding word_bytes
-    named_first = word_inside ready 2060 (word_bytes (word r)) 0 (omega arith) (omega (arith, long_ready)) ∙ u.comes_back
+    named_first = word_written ready 2060 (word r) (omega (arith, long_ready)) (encode_small (descriptor r) (small r u))
 
     pub listed_first : word_at listed 2060 ≡ word r
-    listed_first = word_before named 2065 (7 ∷ []) 2060 (omega arith) ∙ named_first
+    listed_first = word_elsewhere named 2065 (7 ∷ []) 2060 (inl (omega arith)) ∙ named_first
 
     pub listed_second : word_at listed 2056 ≡ 0
-    listed_second = word_before named 2065 (7 ∷ []) 2056 (omega arith) ∙ word_before ready 2060 (word_bytes (word r)) 2056 (omega arith) ∙ ready_second
+    listed_second = word_elsewhere named 2065 (7 ∷ []) 2056 (inl (omega arith)) ∙ word_elsewhere ready 2060 (word_bytes (word r)) 2056 (inl (omega arith)) ∙ ready_second
 
     listed_byte : read_run listed 2065 1 ≡ 7 ∷ []
     listed_byte = sym (is_read_run listed 2065 (7 ∷ []) (λ i d. sym (get_or-write_run_inside named 2065 (7 ∷ []) i d (omega (arith, long_named)))))
@@ -162,18 +160,16 @@ module _ (l : List ℕ) (h : 18432 ≤ length l) where
   long_after_create = stays new_cleared 2056 (word_bytes new_word) long_new_cleared
 
   in_call_kept : (k : ℕ) → k + 4 ≤ 2066 → word_at in_call k ≡ word_at start k
-  in_call_kept k d = word_before inner_cleared 2078 (word_bytes 0) k (omega arith) ∙ word_before start 2066 (replicate 16 0) k d
+  in_call_kept k d = word_elsewhere inner_cleared 2078 (word_bytes 0) k (inl (omega arith)) ∙ word_elsewhere start 2066 (replicate 16 0) k (inl d)
 
   in_call_null : word_at in_call 2074 ≡ 0
-  unfolding word_at
-  in_call_null = word_before inner_cleared 2078 (word_bytes 0) 2074 (omega arith) ∙ word_inside start 2066 (replicate 16 0) 8 (omega arith) (omega (arith, long_listed 35 usable_35))
+  in_call_null = word_elsewhere inner_cleared 2078 (word_bytes 0) 2074 (inl (omega arith)) ∙ word_cleared start 2066 16 2074 (omega arith) (omega arith) (omega (arith, long_listed 35 usable_35))
 
   after_call_second : word_at after_call 2056 ≡ 0
-  after_call_second = word_before in_call 2060 (word_bytes 0) 2056 (omega arith) ∙ in_call_kept 2056 (omega arith) ∙ listed_second 35 usable_35
+  after_call_second = word_elsewhere in_call 2060 (word_bytes 0) 2056 (inl (omega arith)) ∙ in_call_kept 2056 (omega arith) ∙ listed_second 35 usable_35
 
   pub after_create_second : word_at after_create 2056 ≡ new_word
-  unfolding word_at word_bytes encode
-  after_create_second = word_inside new_cleared 2056 (word_bytes new_word) 0 (omega arith) (omega (arith, long_new_cleared))
+  after_create_second = word_written new_cleared 2056 new_word (omega (arith, long_new_cleared)) (encode_small new_descriptor small_new)
 
   pub call_made : Gives (call_plan 1 4 4) (loaded true start) (Ok tt) (inner in_call)
   call_made = calls start (long_listed 35 usable_35) (listed_second 35 usable_35)

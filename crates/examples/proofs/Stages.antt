@@ -1,17 +1,18 @@
 -- The states of the listing, and of the calls after it.
--- Assumes nothing.
-use Rattle.std.proofs.Common.{◌≡◌, ℕ, ◌+◌, ◌≤◌, Bool, true, false, leb, List, [], ◌∷◌, length, replicate, Some, None, Ok, Err, refl}
-use Rattle.std.proofs.lemmas.Bool.{le-leb}
+use Rattle.std.proofs.Common.{◌≡◌, ℕ, ◌+◌, ◌≤◌, Bool, true, false, leb, List, [], ◌∷◌, length, replicate, Some, Ok, Err, refl, arith}
+use Rattle.std.proofs.lemmas.Bool.{le-leb, leb-true}
 use Rattle.bank.specs.Runs.{read_run, write_run}
+use Rattle.rules.specs.declared.descriptor.Descriptor.{Descriptor}
 use Rattle.rules.specs.declared.entry.Entry.{Entry}
 use Rattle.rules.specs.declared.entry.Entry.TheVariants.{Object}
 use Rattle.rules.specs.declared.fault.Reason.TheVariants.{NullEnvironment, NotDeletable, OutOfRange, NoRoom}
 use Rattle.bank.specs.Words.{word_at, word_bytes}
-use Rattle.rules.specs.State.{State, no_table, empty, table, stack, level, entry, encode, decode, valid, named, has, shown, held, read, write, delete}
+use Rattle.rules.specs.State.{State, no_table, empty, table, stack, level, entry, encode, named, has, shown, held, read, write, delete}
 use Rattle.rules.specs.Tests.{refusal, refusal_at, loading, operator, environment, resolve, source_or_null, source, source_with, destination, has_room}
 use Rattle.rules.specs.Effects.{overwrite, put, with_table, with_stack, grown, add, new_object, enter, leave, sealing}
 use Rattle.rules.specs.Loading.{adding, making, place_plan, starting, task_plan, grant_plan, seal_plan}
 use Rattle.rules.specs.Operators.{makes, null_plan, create_plan, read_plan, write_plan, see_plan, call_plan, return_plan}
+use Rattle.rules.proofs.Words.{IsSmall, names_encoded, zero_names_nothing}
 use Rattle.examples.specs.Listing.{Gives}
 
 -- the definitions of the calls, opened; what stays shut are the words of descriptors and the runs of bytes
@@ -38,34 +39,30 @@ context = Object (record { base = 2064; bytes = 0; slots = 4; kind = 1; level = 
 abbrev pub object : Entry
 object = Object (record { base = 2064; bytes = 2; slots = 0; kind = 0; level = 0 })
 
--- the word of the object, with these rights
+-- a descriptor of the object with these rights, and its word
+abbrev pub descriptor : ℕ → Descriptor
+descriptor rights = record { table = 1; index = 1; rights = rights }
+
 abbrev pub word : ℕ → ℕ
-word rights = encode (record { table = 1; index = 1; rights = rights })
+word rights = encode (descriptor rights)
 
 -- rights that can be granted, and with which bytes can be read and written
 pub record Usable (rights : ℕ) : Type 0 where
-  pub small : leb rights 63 ≡ true
-  pub is_valid : valid (word rights) ≡ true
-  pub decodes : decode (word rights) ≡ record { table = 1; index = 1; rights = rights }
+  pub granted : leb rights 63 ≡ true
   pub reads : has read rights ≡ true
   pub writes : has write rights ≡ true
-  pub comes_back : word_at (word_bytes (word rights)) 0 ≡ word rights
 
 pub usable_3 : Usable 3
-unfolding valid encode decode word_at word_bytes
-usable_3 = record { small = refl; is_valid = refl; decodes = refl; reads = refl; writes = refl; comes_back = refl }
+usable_3 = record { granted = refl; reads = refl; writes = refl }
 
 pub usable_35 : Usable 35
-unfolding valid encode decode word_at word_bytes
-usable_35 = record { small = refl; is_valid = refl; decodes = refl; reads = refl; writes = refl; comes_back = refl }
+usable_35 = record { granted = refl; reads = refl; writes = refl }
 
-pub names_object : (s : State) (r : ℕ) → Usable r → entry s 1 1 ≡ Some object → named s (word r) ≡ Some (record { table = 1; index = 1; rights = r })
-unfolding named
-names_object s r u e = rw (u.is_valid, u.decodes, e)
+pub small : (r : ℕ) → Usable r → IsSmall (descriptor r)
+small r u = let most = leb-true r 63 u.granted in record { table = omega arith; index = omega arith; rights = omega (arith, most) }
 
-pub names_nothing : (s : State) → named s 0 ≡ None
-unfolding named valid
-names_nothing s = refl
+names_object : (s : State) (r : ℕ) → Usable r → entry s 1 1 ≡ Some object → named s (word r) ≡ Some (descriptor r)
+names_object s r u e = names_encoded s (descriptor r) object (small r u) e
 
 -- the context and the object, not sealed or sealed
 abbrev pub loaded : Bool → List ℕ → State
@@ -76,12 +73,21 @@ abbrev pub inner : List ℕ → State
 inner b = only (context ∷ object ∷ Object (record { base = 2082; bytes = 0; slots = 4; kind = 1; level = 2 }) ∷ []) 34 (2 ∷ 0 ∷ []) true b
 
 -- with an object of n bytes more
-abbrev pub with_new : ℕ → List ℕ → State
-with_new n b = only (context ∷ object ∷ Object (record { base = 2066; bytes = n; slots = 0; kind = 0; level = 1 }) ∷ []) (18 + (0 + n)) (0 ∷ []) true b
+abbrev created : ℕ → Entry
+created n = Object (record { base = 2066; bytes = n; slots = 0; kind = 0; level = 1 })
 
--- the word that names it
+abbrev pub with_new : ℕ → List ℕ → State
+with_new n b = only (context ∷ object ∷ created n ∷ []) (18 + (0 + n)) (0 ∷ []) true b
+
+-- the descriptor that names it, and its word
+abbrev pub new_descriptor : Descriptor
+new_descriptor = record { table = 1; index = 2; rights = 63 }
+
 abbrev pub new_word : ℕ
-new_word = encode (record { table = 1; index = 2; rights = 63 })
+new_word = encode new_descriptor
+
+pub small_new : IsSmall new_descriptor
+small_new = record { table = omega arith; index = omega arith; rights = omega arith }
 
 module _ (b : List ℕ) (enough : 18432 ≤ length b) where
   long : leb 18432 (length b) ≡ true
@@ -97,7 +103,7 @@ module _ (b : List ℕ) (enough : 18432 ≤ length b) where
 
   pub grants : (r : ℕ) → Usable r → Gives (grant_plan 1 0 0 1 1 r) (loaded false b) (Ok tt) (loaded false (write_run b 2060 (word_bytes (word r))))
   unfolding opened
-  grants r u = rw (long, u.small)
+  grants r u = rw (long, u.granted)
 
   pub seals : Gives seal_plan (loaded false b) (Ok tt) (loaded true b)
   unfolding opened
@@ -107,24 +113,24 @@ module _ (b : List ℕ) (enough : 18432 ≤ length b) where
   module _ (null : word_at b 2056 ≡ 0) where
     pub nulls_not : Gives (null_plan 1 5) (loaded true b) (Err (refusal_at NullEnvironment 1 1 5)) (loaded true b)
     unfolding opened
-    nulls_not = rw (long, null, names_nothing (loaded true b))
+    nulls_not = rw (long, null, zero_names_nothing (loaded true b))
 
     pub sees_not : Gives (see_plan 1 5) (loaded true b) (Err (refusal_at NullEnvironment 1 1 5)) (loaded true b)
     unfolding opened
-    sees_not = rw (long, null, names_nothing (loaded true b))
+    sees_not = rw (long, null, zero_names_nothing (loaded true b))
 
     pub creates : (n : ℕ) → leb n 2048 ≡ true → leb (18 + (0 + n)) 2048 ≡ true →
         Gives (create_plan 1 4 n 0) (loaded true b) (Ok tt) (with_new n (write_run (write_run b 2066 (replicate (0 + n) 0)) 2056 (word_bytes new_word)))
     unfolding opened
-    creates n e f = rw (long, null, names_nothing (loaded true b), e, f)
+    creates n e f = rw (long, null, zero_names_nothing (loaded true b), e, f)
 
     pub creates_not : (n : ℕ) → leb n 2048 ≡ true → leb (18 + (0 + n)) 2048 ≡ false → Gives (create_plan 1 4 n 0) (loaded true b) (Err (refusal NoRoom 1)) (loaded true b)
     unfolding opened
-    creates_not n e f = rw (long, null, names_nothing (loaded true b), e, f)
+    creates_not n e f = rw (long, null, zero_names_nothing (loaded true b), e, f)
 
     pub calls : Gives (call_plan 1 4 4) (loaded true b) (Ok tt) (inner (write_run (write_run b 2066 (replicate 16 0)) 2078 (word_bytes 0)))
     unfolding opened
-    calls = rw (long, null, names_nothing (loaded true b))
+    calls = rw (long, null, zero_names_nothing (loaded true b))
 
   -- slot 0 of the context names the object
   module _ (r : ℕ) (u : Usable r) (names : word_at b 2060 ≡ word r) where
@@ -147,8 +153,8 @@ module _ (b : List ℕ) (enough : 18432 ≤ length b) where
     -- slot 1 of the inner context is null
     pub returns : has delete r ≡ true → word_at b 2074 ≡ 0 → Gives (return_plan 1 4) (inner b) (Ok tt) (loaded true (write_run b 2060 (word_bytes 0)))
     unfolding opened
-    returns e null = rw (long, null, names_nothing (inner b), names, names_object (inner b) r u refl, e)
+    returns e null = rw (long, null, zero_names_nothing (inner b), names, names_object (inner b) r u refl, e)
 
-  pub sees : (n : ℕ) → word_at b 2056 ≡ new_word → Gives (see_plan 1 4) (with_new n b) (Ok (Some (record { table = 1; index = 2; rights = 63 }))) (with_new n b)
-  unfolding opened named valid encode decode
-  sees n e = rw (long, e)
+  pub sees : (n : ℕ) → word_at b 2056 ≡ new_word → Gives (see_plan 1 4) (with_new n b) (Ok (Some new_descriptor)) (with_new n b)
+  unfolding opened
+  sees n e = rw (long, e, names_encoded (with_new n b) new_descriptor (created n) small_new refl)

@@ -1,4 +1,4 @@
--- A listing of seven calls on a new store, and what is called after it. Assumes nothing.
+-- A listing of seven calls on a new store, and what is called after it.
 use Rattle.std.specs.Prelude.{◌≡◌, ℕ, List, [], ◌∷◌, Result}
 use Rattle.rules.specs.declared.fault.Fault.{Fault}
 use Rattle.rules.specs.State.{State, empty}
@@ -42,7 +42,8 @@ read_back rights l = after (read_plan 1 0 1 1) (written rights l)
 unfoldable pub listing : ℕ → List ℕ → State
 listing rights l = after (read_plan 1 0 2 1) (read_back rights l)
 
--- with rights 35, which have delete: the task calls, with nothing as argument, returns nothing and creates an object of one byte
+-- with rights 35, which have delete: the task calls, with nothing as argument, returns nothing and
+-- creates an object of one byte
 unfoldable pub called : List ℕ → State
 called l = after (call_plan 1 4 4) (listing 35 l)
 

@@ -1,5 +1,4 @@
 -- The laws of the Hamming code, each by a test that is computed at every byte or at every word.
--- Assumes nothing.
 use Rattle.std.proofs.Common.{◌≡◌, ℕ, ◌+◌, ◌-◌, ◌<◌, ◌≤◌, ◌%◌, Bool, true, cond, ◌&&◌, eqb, ltb, List, length, get_or, sym, refl, ◌∙◌, ap, subst, arith}
 use Rattle.std.specs.List.{range_with_len}
 use Rattle.std.proofs.lemmas.Bool.{cond-true, eqb-true, ltb-true}

@@ -1,5 +1,10 @@
-// The Hamming code of the coded bank: a byte in positions 1 to 12 of a 16-bit word, where position k is bit k - 1.
-// Any one of those twelve bits may turn, and the byte is still read.
+//! The Hamming code of the coded bank: a byte in positions 1 to 12 of a 16-bit word, where position k
+//! is bit k - 1. Any one of the word's bits may flip, and the byte is still read.
+//!
+//! ```text
+//! let word = hamming::encode(0x80); // 0x888
+//! hamming::decode(word ^ 0x800) // 0x80
+//! ```
 #![tactic(auto)]
 
 ghost use Rattle.std.specs.Prelude.{◌≡◌, ℕ, ◌%◌, ◌==◌, ◌≤◌, true};
@@ -23,8 +28,8 @@ fn decoded_bytes() -> &'static [u8; 4096]
     &decoded::DECODED
 }
 
-// The word of a byte. The byte comes back from it, and from it with any one bit turned: of positions 1 to 12, which are
-// corrected, or of 13 to 16, which are ignored.
+/// The code word of a byte. The byte comes back from it, and from it with any one bit flipped: at
+/// positions 1 to 12, which are corrected, or at 13 to 16, which are ignored.
 #[inline(always)]
 pub fn encode(byte: u8) -> u16
     ensures value { result ≡ code_word byte }
@@ -35,7 +40,7 @@ pub fn encode(byte: u8) -> u16
     code_words()[byte as usize]
 }
 
-// The byte that a word reads as: the table's, at the word's low twelve bits.
+/// The byte that a word reads as, by its low twelve bits.
 #[inline(always)]
 #[tactic(auto, using(crate::proofs::Corrects::looked_up))]
 pub fn decode(word: u16) -> u8

@@ -1,26 +1,18 @@
 -- A side of tasks has the same in states that match for it.
--- Assumes nothing.
-use Rattle.std.proofs.Common.{◌≡◌, ℕ, ◌+◌, ◌<◌, ◌≤◌, List, [], ◌∷◌, length, slice_index, Some, None, Option, refl, sym, ap, ◌∙◌, add-zero, arith}
-use Rattle.bank.specs.Words.{word_at}
+use Rattle.std.proofs.Common.{◌≡◌, ℕ, ◌+◌, ◌<◌, ◌≤◌, List, [], ◌∷◌, length, Some, None, Option, refl, sym, ap, ◌∙◌, arith}
+use Rattle.bank.proofs.WordLaws.{same_word}
 use Rattle.rules.specs.declared.entry.Entry.{Entry}
 use Rattle.rules.specs.declared.entry.Entry.TheVariants.{Object, Control, Refined}
 use Rattle.rules.specs.declared.entry.Storage.{Storage}
-use Rattle.rules.specs.declared.shown.Descriptor.{Descriptor}
+use Rattle.rules.specs.declared.descriptor.Descriptor.{Descriptor}
 use Rattle.rules.specs.declared.shown.Shown.{Shown}
 use Rattle.rules.specs.State.{State, entry, held, level, named, part, shown, shown_by, slot_at, stack, table}
 use Rattle.soundness.specs.Sound.{AreContexts, In, IsContext, NullOrLive, Sound, below, here, names, null, slot_of}
-use Rattle.soundness.proofs.Words.{named_is, zero_names_nothing}
+use Rattle.rules.proofs.Words.{named_is, zero_names_nothing}
 use Rattle.isolation.specs.Reach.{Alters, HasSlot, Obtains, Reaches, Side, amplified, beneath, in_context, in_shown, named_entry, only, written, written_beneath}
 use Rattle.isolation.specs.Share.{Alike}
 use Rattle.isolation.proofs.Matches.{Matches}
 use Rattle.isolation.proofs.Sides.{Seat, context_seat, context_there, shown_seat, slot_taken}
-
--- four bytes that are the same make the same word
-same_word : (l m : List ℕ) (a : ℕ) → ((j : ℕ) → j < 4 → slice_index l (a + j) ≡ slice_index m (a + j)) → word_at l a ≡ word_at m a
-unfolding word_at
-same_word l m a same =
-    let lowest : slice_index l a ≡ slice_index m a = simp add-zero at (same 0 (omega arith)) in
-    rw (lowest, same 1 (omega arith), same 2 (omega arith), same 3 (omega arith))
 
 -- a slot that is shown holds 0 or the word of an entry that is there
 slot_holds : (s : State) (g : Sound s) (v : Shown) (k : ℕ) (o : Storage) → entry s v.owner v.object ≡ Some (Object o) → v.base ≡ o.base → v.slot + k < o.slots → NullOrLive s v.owner o.level (held s (record { by = v; at = k }))
@@ -41,7 +33,7 @@ module _ (A : Side) (s u : State) (m : Matches A s u) (g : Sound s) (j : Sound u
   -- a slot of what is reached holds the same word, and it names the same
   same_held : (v : Shown) (k : ℕ) → Seat s A v → k < v.slots → held s (record { by = v; at = k }) ≡ held u (record { by = v; at = k })
   unfolding held
-  same_held v k h less = same_word s.bytes u.bytes (slot_at v k) (λ i low. m.same_bytes v.owner v.object h.object (slot_at v k + i) h.reached h.is_there (slot_taken s g A v h k i less low))
+  same_held v k h less = same_word s.bytes u.bytes (slot_at v k) (slot_at v k) (λ i low. m.same_bytes v.owner v.object h.object (slot_at v k + i) h.reached h.is_there (slot_taken s g A v h k i less low))
 
   pub same_named : (v : Shown) (k : ℕ) → Seat s A v → k < v.slots → named s (held s (record { by = v; at = k })) ≡ named u (held u (record { by = v; at = k }))
   same_named v k h less =

@@ -1,5 +1,5 @@
--- A call of a task is nothing to a side of other tasks that is separate from its own, and the sides stay separate.
--- Assumes nothing.
+-- A call of a task is nothing to a side of other tasks that is separate from its own, and the sides
+-- stay separate.
 use Rattle.std.proofs.Common.{◌≡◌, ◌⊎◌, ℕ, ◌≤◌, Some, None, slice_index, sym, subst, ◌∙◌, inl, inr, arith}
 use Rattle.std.proofs.lemmas.Bool.{cases_lt}
 use Rattle.rules.specs.declared.entry.Entry.TheVariants.{Object}
@@ -17,18 +17,21 @@ use Rattle.isolation.proofs.Sides.{altered_reached, alters_more, reached_there}
 abbrev pub Apart : State → Side → Side → Type 0
 Apart s A B = (t i : ℕ) → Reaches s A t i → Reaches s B t i → ((Alters s A t i → ⊥) × (Alters s B t i → ⊥))
 
+-- a byte of an object is one that a call of a task may change only if the task alters the object
+pub changed_altered : (s : State) (q : ℕ) → Sound s → (t i : ℕ) (o : Storage) (a : ℕ) → entry s t i ≡ Some (Object o) → Takes o a → MayChange s q a → Alters s (only q) t i
+changed_altered s q g t i o a is takes (altered v n p alters is' takes') = let same = g.apart t i v n o p a is is' takes takes' in rw (same.0, same.1) alters
+changed_altered s q g t i o a is takes (unclaimed from to) =
+    let inside = g.in_claim t i o is in
+    let home : t ≡ q = omega (arith, inside, takes, g.small_claim t) in
+    let claim : (table s t).claim ≡ (table s q).claim = rw home in
+    absurd (omega (arith, inside, takes))
+
 module _ (s u : State) (q : ℕ) (g : Sound s) (j : Sound u) (m : Moved s u q) (A B : Side) (mine : A q) (not_theirs : B q → ⊥) (apart : Apart s A B) where
   -- a byte of an object that the other side reaches is none that the call may change
   not_changed : (t i : ℕ) (o : Storage) (a : ℕ) → Reaches s B t i → entry s t i ≡ Some (Object o) → Takes o a → MayChange s q a → ⊥
-  not_changed t i o a r is takes (altered v n p alters is' takes') =
-      let same = g.apart t i v n o p a is is' takes takes' in
-      let alters' : Alters s A v n = alters_more s (only q) A (λ t e. subst A (sym e) mine) v n alters in
-      (apart v n (altered_reached s A v n alters') (rw (same.0, same.1) at r)).0 alters'
-  not_changed t i o a r is takes (unclaimed from to) =
-      let inside = g.in_claim t i o is in
-      let home : t ≡ q = omega (arith, inside, takes, g.small_claim t) in
-      let claim : (table s t).claim ≡ (table s q).claim = rw home in
-      omega (arith, inside, takes)
+  not_changed t i o a r is takes may =
+      let alters : Alters s A t i = alters_more s (only q) A (λ v e. subst A (sym e) mine) t i (changed_altered s q g t i o a is takes may) in
+      (apart t i (altered_reached s A t i alters) r).0 alters
 
   -- the other side has what it had
   pub other_matches : Matches B s u

@@ -1,8 +1,8 @@
 -- The same effect of a call of task P keeps two states equal in all that P reaches.
--- Assumes nothing.
 use Rattle.std.proofs.Common.{◌≡◌, ◌⊎◌, ℕ, ◌+◌, ◌-◌, ◌*◌, ◌<◌, ◌≤◌, List, ◌∷◌, length, replicate, take, Some, slice_index, refl, sym, ap, ◌∙◌, inl, inr, add-zero, arith}
 use Rattle.std.proofs.lemmas.Bool.{cases_eq, cases_lt}
 use Rattle.std.proofs.lemmas.List.{length-replicate}
+use Rattle.rules.proofs.Entries.{entry_within}
 use Rattle.store.proofs.Orders.{room_is}
 use Rattle.bank.specs.Runs.{write_run}
 use Rattle.bank.specs.Words.{word_bytes}
@@ -18,7 +18,7 @@ use Rattle.rules.specs.Operators.{first_of, refined}
 use Rattle.soundness.specs.Sound.{In, Sound, Takes, here}
 use Rattle.soundness.proofs.Additions.{add_adds, enter_adds, entry_was}
 use Rattle.soundness.proofs.Changes.{Adds}
-use Rattle.soundness.proofs.Entries.{entry_within, known_task}
+use Rattle.soundness.proofs.Entries.{known_task}
 use Rattle.soundness.proofs.Leaves.{left_stack, left_table, left_was}
 use Rattle.soundness.proofs.Origins.{Calls, Comes}
 use Rattle.soundness.proofs.Overwrites.{is_inside_bank}

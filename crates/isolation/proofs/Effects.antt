@@ -1,5 +1,4 @@
 -- Every effect of a call of a task moves a sound store.
--- Assumes nothing.
 use Rattle.std.proofs.Common.{◌≡◌, ◌≢◌, ◌⊎◌, ℕ, ◌+◌, ◌*◌, ◌<◌, ◌≤◌, true, List, [], ◌∷◌, length, replicate, Some, None, Option, slice_index, refl, sym, ◌∙◌, inl, inr, arith}
 use Rattle.std.proofs.lemmas.Bool.{cases_lt, cases_order}
 use Rattle.std.proofs.lemmas.List.{length-replicate}
@@ -9,7 +8,7 @@ use Rattle.bank.proofs.RunLaws.{get_or-write_run_before, get_or-write_run_behind
 use Rattle.rules.specs.declared.entry.Entry.{Entry}
 use Rattle.rules.specs.declared.entry.Entry.TheVariants.{Object, Control, Refined}
 use Rattle.rules.specs.declared.entry.Storage.{Storage}
-use Rattle.rules.specs.declared.shown.Descriptor.{Descriptor}
+use Rattle.rules.specs.declared.descriptor.Descriptor.{Descriptor}
 use Rattle.rules.specs.declared.shown.Place.{Place}
 use Rattle.rules.specs.State.{State, block_start, byte_at, encode, entry, has, level, level_of, named, shown, shown_by, slot_at, stack, table, takes, write}
 use Rattle.rules.specs.Effects.{Effect, add, add_named, apply, enter, open_context, first_slot, leave, new_object, next_index, overwrite, put, with_stack, with_table}
@@ -22,7 +21,8 @@ use Rattle.soundness.proofs.Finds.{Holds, Shows, given_holds, shows, shows_nothi
 use Rattle.soundness.proofs.Fits.{Enters, Closes, Fits, MayNameNew}
 use Rattle.soundness.proofs.Leaves.{higher, leave_sound, left_other_stacks, left_others, left_stays, left_was, rest}
 use Rattle.soundness.proofs.Overwrites.{is_inside_bank, separate}
-use Rattle.soundness.proofs.Words.{IsSmall, decode_encode, encode_small, named_is, word_elsewhere, word_written, zero_names_nothing}
+use Rattle.bank.proofs.WordLaws.{word_elsewhere, word_written}
+use Rattle.rules.proofs.Words.{IsSmall, decode_encode, encode_small, named_is, zero_names_nothing}
 use Rattle.soundness.proofs.Operators.{comes_fits}
 use Rattle.soundness.proofs.Origins.{Comes, Source, Word, enters, keeps, leaves, makes, nothing_named, puts, refines, word_of, writes}
 use Rattle.isolation.specs.Reach.{Alters, only}

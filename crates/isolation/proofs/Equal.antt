@@ -1,33 +1,35 @@
 -- A call of task P plans the same in two states that are equal in all that P reaches.
--- Assumes nothing.
-use Rattle.std.proofs.Common.{◌≡◌, ℕ, zero, suc, ◌+◌, ◌%◌, ◌==◌, ◌<◌, ◌≤◌, Bool, true, false, bit_and, bit_or, nat_lt, List, [], ◌∷◌, length, Some, None, Ok, Err, Option, Result, slice_index, refl, ap, add-zero, add-suc, suc-add, arith}
+use Rattle.std.proofs.Common.{if◌then◌else◌, ◌≡◌, ℕ, zero, suc, ◌+◌, ◌%◌, ◌==◌, ◌<◌, ◌≤◌, Bool, true, false, bit_and, bit_or, nat_lt, List, [], ◌∷◌, length, Some, None, Ok, Err, Option, Result, slice_index, refl, ap, add-zero, add-suc, suc-add, arith}
 use Rattle.std.proofs.lemmas.Bool.{le-leb, leb-true}
 use Rattle.std.specs.Option.{IfSome}
 use Rattle.std.specs.Result.{IfOk}
 use Rattle.bank.specs.Runs.{read_run}
+use Rattle.rules.specs.declared.call.Operator.{Operator}
+use Rattle.rules.specs.declared.call.Operator.TheVariants.{Copy, Null, Restrict, Amplify, Create, Typed, Refine, Read, Write, See, Look, Call, Return}
 use Rattle.rules.specs.declared.entry.Entry.{Entry}
+use Rattle.rules.specs.declared.entry.TypeControl.{TypeControl}
 use Rattle.rules.specs.declared.fault.Fault.{Fault}
-use Rattle.rules.specs.declared.shown.Descriptor.{Descriptor}
+use Rattle.rules.specs.declared.descriptor.Descriptor.{Descriptor}
 use Rattle.rules.specs.declared.shown.Place.{Place}
 use Rattle.rules.specs.declared.shown.Shown.{Shown}
-use Rattle.rules.specs.State.{State, byte_at, entry, held, level, named, read, shown, stack, table, type1, type2, write}
-use Rattle.rules.specs.Tests.{◌≫=◌, fits, check, choose, control, destination, environment, kind_by, operator, resolve, some, source, source_or_null, source_with}
+use Rattle.rules.specs.State.{State, byte_at, entry, has, held, level, named, read, shown, stack, table, type1, type2, write}
+use Rattle.rules.specs.Tests.{◌≫=◌, fits, check, control, destination, environment, kind_by, operator, resolve, some, source, source_or_null, source_with}
 use Rattle.rules.specs.Effects.{Effect, Planned, keep, apply, done, new_object}
 use Rattle.rules.specs.Operators.{amplify_plan, call_plan, calling, copy_plan, create_plan, first_of, level_named, look_plan, makes, null_plan, read_plan, refine_plan, restrict_plan, return_plan, see_plan, stores, typed_plan, with_rights, write_plan}
-use Rattle.runs.specs.Calls.{Operator, Outcome, answering, filling, listed, operate, outcome, plainly, step, told, unbuffered}
-use Rattle.runs.specs.declared.answer.Answer.{Answer}
-use Rattle.runs.specs.declared.answer.Answer.TheVariants.{Done}
+use Rattle.rules.specs.Calls.{Outcome, operator_outcome}
 use Rattle.soundness.specs.Sound.{In, IsContext, Sound, below, here}
+use Rattle.soundness.proofs.Binds.{HasPlan}
 use Rattle.soundness.proofs.Finds.{is_current}
-use Rattle.soundness.proofs.Origins.{Calls, Comes, Environment, Selected, Source, by_slot, control_finds, destination_finds, operator_finds, resolve_finds, source_finds, source_or_null_finds, source_with_finds, the_context}
-use Rattle.soundness.proofs.Plans.{Coming, amplify_comes, call_comes, copy_comes, create_comes, look_comes, null_comes, read_comes, refine_comes, restrict_comes, return_comes, see_comes, typed_comes, write_comes}
+use Rattle.soundness.proofs.Origins.{Calls, Comes, ControlBy, Environment, Selected, Source, by_slot, control_finds, destination_finds, operator_finds, resolve_finds, source_finds, source_or_null_finds, source_with_finds, the_context}
+use Rattle.soundness.proofs.Plans.{operator_plan}
 use Rattle.isolation.specs.Reach.{in_context, named_entry, only}
 use Rattle.isolation.proofs.Given.{source_obtained}
 use Rattle.isolation.proofs.Matches.{Matches, same_level}
 use Rattle.isolation.proofs.Alikes.{same_context, same_named, same_shown}
 use Rattle.isolation.proofs.Sides.{Seat, has_parts_if, byte_taken, context_seat, obtained_seat}
 
--- two chains of tests come to the same if each test finds the same and the rest is the same of what it finds
+-- two chains of tests are equal if each test finds the same and the rest is the same of what it
+-- finds
 same_after : {X Y : Type 0} (F : X → Type 0) (r r' : Result X Fault) (f f' : X → Result Y Fault) → IfOk r F → r ≡ r' → ((x : X) → F x → f x ≡ f' x) → (r ≫= f) ≡ (r' ≫= f')
 same_after F r r' f f' known e rest = rw (← e) (go r known)
   where
@@ -49,7 +51,7 @@ same_some o o' e f f' same rest = rw (← same) (go o refl)
     go (Some x) is = rest x is
     go None is = refl
 
-same_choice : {X : Type 0} (b : Bool) (x x' y y' : X) → x ≡ x' → y ≡ y' → choose b x y ≡ choose b x' y'
+same_choice : {X : Type 0} (b : Bool) (x x' y y' : X) → x ≡ x' → y ≡ y' → (if b then x else y) ≡ (if b then x' else y')
 same_choice true x x' y y' e e' = e
 same_choice false x x' y y' e e' = e'
 
@@ -60,6 +62,14 @@ same_run l l' a zero h = refl
 same_run l l' a (suc n) h =
     let first : slice_index l a ≡ slice_index l' a = simp add-zero at (h 0 (omega arith)) in
     rw (first, same_run l l' (suc a) n (λ k less. simp suc-add (simp add-suc at (h (suc k) (omega arith))))) refl
+
+-- equal plans answer the same and have the same effect
+same_made : (s u : State) {K : State → Effect → Type 0} (f : State → Outcome × State) (h : HasPlan K f) (X : State → State → Type 0) → X s u → ((x : Effect) → K s x → K u x → X (apply x s) (apply x u)) → h.plan s ≡ h.plan u → ((f s).0 ≡ (f u).0) × X (f s).1 (f u).1
+same_made s u {K} f h X kept moved e = rw (h.is_made s, h.is_made u) (go (h.plan s) (h.plan u) e (h.known s) (h.known u))
+  where
+    go : (r r' : Result (Planned h.Found) Fault) → r ≡ r' → IfOk r (λ p. K s p.effect) → IfOk r' (λ p. K u p.effect) → (h.told (done s r).0 ≡ h.told (done u r').0) × X (done s r).1 (done u r').1
+    go (Ok p) r' e from from' = rw (← e) (refl, moved p.effect from (rw (← e) at from'))
+    go (Err x) r' e from from' = rw (← e) (refl, kept)
 
 module _ (s : State) (g : Sound s) (q : ℕ) where
   -- the current context is open
@@ -136,6 +146,15 @@ module _ (P : ℕ) (s u : State) (m : Matches (only P) s u) (same : table s P �
     after_source : {Y : Type 0} (f f' : Descriptor → Result Y Fault) → ((d : Descriptor) → Source s P d → f d ≡ f' d) → (source s P c p sel ≫= f) ≡ (source u P c p sel ≫= f')
     after_source f f' = same_after _ _ _ f f' (source_finds s P c p sel o) source_same
 
+    after_source_or_null : {Y : Type 0} (f f' : Option Descriptor → Result Y Fault) → ((x : Option Descriptor) → IfSome x (Source s P) → f x ≡ f' x) → (source_or_null s P c p sel ≫= f) ≡ (source_or_null u P c p sel ≫= f')
+    after_source_or_null f f' = same_after _ _ _ f f' (source_or_null_finds s P c p sel o) source_or_null_same
+
+    after_source_with : {Y : Type 0} (right : ℕ) (f f' : Descriptor → Result Y Fault) → ((d : Descriptor) → Source s P d × (has right d.rights ≡ true) → f d ≡ f' d) → (source_with right s P c p sel ≫= f) ≡ (source_with right u P c p sel ≫= f')
+    after_source_with right f f' = same_after _ _ _ f f' (source_with_finds s P c p sel o right) (source_with_same right)
+
+    after_control : {Y : Type 0} (right : ℕ) (f f' : TypeControl → Result Y Fault) → ((k : TypeControl) → ControlBy s P right k → f k ≡ f' k) → (control right s P c p sel ≫= f) ≡ (control right u P c p sel ≫= f')
+    after_control right f f' = same_after _ _ _ f f' (control_finds s P c p sel o right) (control_same right)
+
     after_destination : {Y : Type 0} (f f' : Place → Result Y Fault) → ((l : Place) → Selected s P write l → f l ≡ f' l) → (destination s P c p sel ≫= f) ≡ (destination u P c p sel ≫= f')
     after_destination f f' = same_after _ _ _ f f' (destination_finds s P c p sel o) destination_same
 
@@ -143,114 +162,24 @@ module _ (P : ℕ) (s u : State) (m : Matches (only P) s u) (same : table s P �
   unfolding stores
   stores_same d l e = rw e refl
 
-  copy_same : (src dst : ℕ) → copy_plan P src dst s ≡ copy_plan P src dst u
-  unfolding copy_plan
-  copy_same src dst =
-      after_operator _ _ (λ c o.
-      after_source c 1 src o _ _ (λ d h.
-      after_destination c 2 dst o _ _ (λ l _.
-      stores_same d l (source_entry d h))))
-
-  null_same : (dst : ℕ) → null_plan P dst s ≡ null_plan P dst u
-  unfolding null_plan
-  null_same dst =
-      after_operator _ _ (λ c o.
-      rw (destination_same c 1 dst o) refl)
-
-  restrict_same : (src dst mask : ℕ) → restrict_plan P src dst mask s ≡ restrict_plan P src dst mask u
-  unfolding restrict_plan
-  restrict_same src dst mask =
-      after_operator _ _ (λ c o.
-      after_source c 1 src o _ _ (λ d h.
-      after_destination c 2 dst o _ _ (λ l _.
-      rw (stores_same (with_rights (bit_and d.rights mask) d) l (source_entry d h)) refl)))
-
-  amplify_same : (ctl src dst : ℕ) → amplify_plan P ctl src dst s ≡ amplify_plan P ctl src dst u
-  unfolding amplify_plan
-  amplify_same ctl src dst =
-      after_operator _ _ (λ c o.
-      same_after _ _ _ _ _ (control_finds s P c 1 ctl o type2) (control_same c 1 ctl o type2) (λ k _.
-      after_source c 2 src o _ _ (λ d h.
-      same_check (kind_by (entry s d.table d.index) == k.kind) _ _ _ _ (ap (λ (x : Option Entry). kind_by x == k.kind) (source_entry d h)) (λ _.
-      after_destination c 3 dst o _ _ (λ l _.
-      stores_same (with_rights (bit_or d.rights k.rights) d) l (source_entry d h))))))
-
   makes_same : (l : Place) (n k kind : ℕ) → makes s P l n k kind ≡ makes u P l n k kind
   unfolding makes new_object
   makes_same l n k kind = rw (same, same_level P s u m) refl
 
-  create_same : (dst n k : ℕ) → create_plan P dst n k s ≡ create_plan P dst n k u
-  unfolding create_plan
-  create_same dst n k =
-      after_operator _ _ (λ c o.
-      after_destination c 1 dst o _ _ (λ l _.
-      makes_same l n k 0))
-
-  typed_same : (ctl dst n k : ℕ) → typed_plan P ctl dst n k s ≡ typed_plan P ctl dst n k u
-  unfolding typed_plan
-  typed_same ctl dst n k =
-      after_operator _ _ (λ c o.
-      same_after _ _ _ _ _ (control_finds s P c 1 ctl o type1) (control_same c 1 ctl o type1) (λ t _.
-      after_destination c 2 dst o _ _ (λ l _.
-      makes_same l n k t.kind)))
-
-  refine_same : (src dst byte bytes slot slots : ℕ) → refine_plan P src dst byte bytes slot slots s ≡ refine_plan P src dst byte bytes slot slots u
-  unfolding refine_plan
-  refine_same src dst byte bytes slot slots =
-      after_operator _ _ (λ c o.
-      after_source c 1 src o _ _ (λ d h.
-      rw (source_entry d h, source_shown d h, destination_same c 2 dst o, same_level P s u m, same) refl))
-
-  read_same : (src offset n : ℕ) → read_plan P src offset n s ≡ read_plan P src offset n u
-  unfolding read_plan
-  read_same src offset n =
-      after_operator _ _ (λ c o.
-      same_after _ _ _ _ _ (source_with_finds s P c 1 src o read) (source_with_same c 1 src o read) (λ d h.
-      rw (← source_shown d h.0)
-      (same_check (fits offset n (shown s d.table d.index).bytes) _ _ _ _ refl (λ inside.
-      ap (λ (r : List ℕ). Ok (record { answer = r; effect = keep })) (seen d h.0 (leb-true _ _ inside))))))
+  -- the bytes that a source shows
+  read_run_same : (offset n : ℕ) (d : Descriptor) → Source s P d → offset + n ≤ (shown s d.table d.index).bytes → read_run s.bytes (byte_at (shown s d.table d.index) offset) n ≡ read_run u.bytes (byte_at (shown s d.table d.index) offset) n
+  read_run_same offset n d h inside =
+      same_run s.bytes u.bytes (byte_at v offset) n (λ k less.
+      let seat : Seat s (only P) v = obtained_seat s g (only P) d (source_obtained s g P d h) (has_parts_if s d.table d.index (omega arith)) in
+      let takes = byte_taken s g (only P) v seat (offset + k) (omega arith) in
+      m.same_bytes v.owner v.object seat.object (byte_at v offset + k) seat.reached seat.is_there (omega (arith, takes.0), omega (arith, takes.1)))
     where
-      seen : (d : Descriptor) → Source s P d → offset + n ≤ (shown s d.table d.index).bytes → read_run s.bytes (byte_at (shown s d.table d.index) offset) n ≡ read_run u.bytes (byte_at (shown s d.table d.index) offset) n
-      seen d h inside =
-          same_run s.bytes u.bytes (byte_at v offset) n (λ k less.
-          let seat : Seat s (only P) v = obtained_seat s g (only P) d (source_obtained s g P d h) (has_parts_if s d.table d.index (omega arith)) in
-          let takes = byte_taken s g (only P) v seat (offset + k) (omega arith) in
-          m.same_bytes v.owner v.object seat.object (byte_at v offset + k) seat.reached seat.is_there (omega (arith, takes.0), omega (arith, takes.1)))
-        where
-          v : Shown
-          v = shown s d.table d.index
-
-  write_same : (src offset : ℕ) (bs : List ℕ) → write_plan P src offset bs s ≡ write_plan P src offset bs u
-  unfolding write_plan
-  write_same src offset bs =
-      after_operator _ _ (λ c o.
-      same_after _ _ _ _ _ (source_with_finds s P c 1 src o write) (source_with_same c 1 src o write) (λ d h.
-      rw (source_shown d h.0) refl))
-
-  see_same : (src : ℕ) → see_plan P src s ≡ see_plan P src u
-  unfolding see_plan
-  see_same src =
-      after_operator _ _ (λ c o.
-      rw (source_or_null_same c 1 src o) refl)
-
-  look_same : (src : ℕ) → look_plan P src s ≡ look_plan P src u
-  unfolding look_plan
-  look_same src =
-      after_operator _ _ (λ c o.
-      after_source c 1 src o _ _ (λ d h.
-      rw (source_entry d h, source_shown d h) refl))
+      v : Shown
+      v = shown s d.table d.index
 
   named_level : (x : Option Descriptor) → IfSome x (Source s P) → level_named s x ≡ level_named u x
   named_level (Some d) h = rw (source_entry d h) refl
   named_level None h = refl
-
-  call_same : (arg k : ℕ) → call_plan P arg k s ≡ call_plan P arg k u
-  unfolding call_plan
-  call_same arg k =
-      after_operator _ _ (λ c o.
-      same_check (nat_lt (level s P) 8) _ _ _ _ (ap (λ (n : ℕ). nat_lt n 8) (same_level P s u m)) (λ _.
-      same_after _ _ _ _ _ (source_or_null_finds s P c 1 arg o) (source_or_null_same c 1 arg o) (λ x h.
-      rw (named_level x h, same_level P s u m, same) refl)))
 
   -- the context that the current one was called from, and its first slot
   calling_open : (b : ℕ) → calling (stack s P) ≡ Some b → In b (stack s P) × (0 < (shown s P b).slots)
@@ -274,49 +203,74 @@ module _ (P : ℕ) (s u : State) (m : Matches (only P) s u) (same : table s P �
       let x = calling_open b from in
       rw (← calling_shown b from) (same_named (only P) s u m g j (shown s P b) 0 (context_seat s g (only P) P b refl x.0) x.1)
 
-  return_same : (res : ℕ) → return_plan P res s ≡ return_plan P res u
-  unfolding return_plan
-  return_same res =
+  -- the operators, one by one
+  plan_same : (c : Operator) (bs : List ℕ) → (operator_plan P c bs).plan s ≡ (operator_plan P c bs).plan u
+  unfolding amplify_plan call_plan copy_plan create_plan look_plan null_plan read_plan refine_plan restrict_plan return_plan see_plan typed_plan write_plan
+  plan_same (Copy src dst) bs =
+      after_operator _ _ (λ c o.
+      after_source c 1 src o _ _ (λ d h.
+      after_destination c 2 dst o _ _ (λ l _.
+      stores_same d l (source_entry d h))))
+  plan_same (Null dst) bs =
+      after_operator _ _ (λ c o.
+      rw (destination_same c 1 dst o) refl)
+  plan_same (Restrict src dst mask) bs =
+      after_operator _ _ (λ c o.
+      after_source c 1 src o _ _ (λ d h.
+      after_destination c 2 dst o _ _ (λ l _.
+      rw (stores_same (with_rights (bit_and d.rights mask) d) l (source_entry d h)) refl)))
+  plan_same (Amplify ctl src dst) bs =
+      after_operator _ _ (λ c o.
+      after_control c 1 ctl o type2 _ _ (λ k _.
+      after_source c 2 src o _ _ (λ d h.
+      same_check (kind_by (entry s d.table d.index) == k.kind) _ _ _ _ (ap (λ (x : Option Entry). kind_by x == k.kind) (source_entry d h)) (λ _.
+      after_destination c 3 dst o _ _ (λ l _.
+      stores_same (with_rights (bit_or d.rights k.rights) d) l (source_entry d h))))))
+  plan_same (Create dst n k) bs =
+      after_operator _ _ (λ c o.
+      after_destination c 1 dst o _ _ (λ l _.
+      makes_same l n k 0))
+  plan_same (Typed ctl dst n k) bs =
+      after_operator _ _ (λ c o.
+      after_control c 1 ctl o type1 _ _ (λ t _.
+      after_destination c 2 dst o _ _ (λ l _.
+      makes_same l n k t.kind)))
+  plan_same (Refine src dst byte bytes slot slots) bs =
+      after_operator _ _ (λ c o.
+      after_source c 1 src o _ _ (λ d h.
+      rw (source_entry d h, source_shown d h, destination_same c 2 dst o, same_level P s u m, same) refl))
+  plan_same (Read src offset) bs =
+      after_operator _ _ (λ c o.
+      after_source_with c 1 src o read _ _ (λ d h.
+      rw (← source_shown d h.0)
+      (same_check (fits offset (length bs) (shown s d.table d.index).bytes) _ _ _ _ refl (λ inside.
+      ap (λ (r : List ℕ). Ok (record { answer = r; effect = keep })) (read_run_same offset (length bs) d h.0 (leb-true _ _ inside))))))
+  plan_same (Write src offset) bs =
+      after_operator _ _ (λ c o.
+      after_source_with c 1 src o write _ _ (λ d h.
+      rw (source_shown d h.0) refl))
+  plan_same (See src) bs =
+      after_operator _ _ (λ c o.
+      rw (source_or_null_same c 1 src o) refl)
+  plan_same (Look src) bs =
+      after_operator _ _ (λ c o.
+      after_source c 1 src o _ _ (λ d h.
+      rw (source_entry d h, source_shown d h) refl))
+  plan_same (Call arg k) bs =
+      after_operator _ _ (λ c o.
+      same_check (nat_lt (level s P) 8) _ _ _ _ (ap (λ (n : ℕ). nat_lt n 8) (same_level P s u m)) (λ _.
+      after_source_or_null c 1 arg o _ _ (λ x h.
+      rw (named_level x h, same_level P s u m, same) refl)))
+  plan_same (Return res) bs =
       after_operator _ _ (λ c o.
       same_some (calling (stack s P)) _ _ _ _ (ap calling (m.same_stacks P refl)) (λ b from.
-      same_after _ _ _ _ _ (source_or_null_finds s P c 1 res o) (source_or_null_same c 1 res o) (λ x h.
+      after_source_or_null c 1 res o _ _ (λ x h.
       rw (calling_named b from, named_level x h, calling_shown b from) refl)))
 
-  -- equal plans answer the same and have the same effect
-  module _ (X : State → State → Type 0) (moved : (x : Effect) → Comes s P x → Comes u P x → X (apply x s) (apply x u)) where
-    abbrev Same : Outcome × State → Outcome × State → Type 0
-    Same a b = (a.0 ≡ b.0) × X a.1 b.1
+  module _ (c : Operator) (bs : List ℕ) where
+    pub same_outcome : (operator_outcome P c bs s).0 ≡ (operator_outcome P c bs u).0
+    same_outcome = (same_made s u _ (operator_plan P c bs) (λ _ _. Unit {0}) tt (λ _ _ _. tt) (plan_same c bs)).0
 
-    told_same : {Y : Type 0} (f : Y → Answer) (r r' : Result (Planned Y) Fault) → r ≡ r' → Coming s P r → Coming u P r' → Same (unbuffered (answering f (done s r))) (unbuffered (answering f (done u r')))
-    told_same f (Ok p) r' e from from' = rw (← e) (refl, moved p.effect from (rw (← e) at from'))
-    told_same f (Err x) r' e from from' = rw (← e) (refl, moved keep Comes.keeps Comes.keeps)
-
-    done_same : (r r' : Result (Planned (Unit {0})) Fault) → r ≡ r' → Coming s P r → Coming u P r' → Same (plainly (done s r)) (plainly (done u r'))
-    done_same = told_same (λ _. Done)
-
-    filled_same : (before : List ℕ) (r r' : Result (Planned (List ℕ)) Fault) → r ≡ r' → Coming s P r → Coming u P r' → Same (filling before (done s r)) (filling before (done u r'))
-    filled_same before (Ok p) r' e from from' = rw (← e) (refl, moved p.effect from (rw (← e) at from'))
-    filled_same before (Err x) r' e from from' = rw (← e) (refl, moved keep Comes.keeps Comes.keeps)
-
-    calls_same : (c : Operator) → Same (outcome (operate P c) s) (outcome (operate P c) u)
-    unfolding outcome
-    calls_same (Operator.copy src dst) = done_same _ _ (copy_same src dst) (copy_comes s P src dst) (copy_comes u P src dst)
-    calls_same (Operator.null dst) = done_same _ _ (null_same dst) (null_comes s P dst) (null_comes u P dst)
-    calls_same (Operator.restrict src dst mask) = done_same _ _ (restrict_same src dst mask) (restrict_comes s P src dst mask) (restrict_comes u P src dst mask)
-    calls_same (Operator.amplify ctl src dst) = done_same _ _ (amplify_same ctl src dst) (amplify_comes s P ctl src dst) (amplify_comes u P ctl src dst)
-    calls_same (Operator.create dst n k) = done_same _ _ (create_same dst n k) (create_comes s P dst n k) (create_comes u P dst n k)
-    calls_same (Operator.typed ctl dst n k) = done_same _ _ (typed_same ctl dst n k) (typed_comes s P ctl dst n k) (typed_comes u P ctl dst n k)
-    calls_same (Operator.refine src dst byte bytes slot slots) = done_same _ _ (refine_same src dst byte bytes slot slots) (refine_comes s P src dst byte bytes slot slots) (refine_comes u P src dst byte bytes slot slots)
-    calls_same (Operator.read src offset buffer) = filled_same buffer _ _ (read_same src offset (length buffer)) (read_comes s P src offset (length buffer)) (read_comes u P src offset (length buffer))
-    calls_same (Operator.write src offset bs) = done_same _ _ (write_same src offset bs) (write_comes s P src offset bs) (write_comes u P src offset bs)
-    calls_same (Operator.see src) = told_same told _ _ (see_same src) (see_comes s P src) (see_comes u P src)
-    calls_same (Operator.look src) = told_same listed _ _ (look_same src) (look_comes s P src) (look_comes u P src)
-    calls_same (Operator.call arg k) = done_same _ _ (call_same arg k) (call_comes s P arg k) (call_comes u P arg k)
-    calls_same (Operator.return_result res) = done_same _ _ (return_same res) (return_comes s P res) (return_comes u P res)
-
-  pub same_outcome : (c : Operator) → (outcome (operate P c) s).0 ≡ (outcome (operate P c) u).0
-  same_outcome c = (calls_same (λ _ _. Unit {0}) (λ _ _ _. tt) c).0
-
-  -- what holds of the two states after any effect holds of them after the call
-  pub step_both : (X : State → State → Type 0) (c : Operator) → ((x : Effect) → Comes s P x → Comes u P x → X (apply x s) (apply x u)) → X (step (operate P c) s) (step (operate P c) u)
-  step_both X c moved = (calls_same X moved c).1
+    -- what holds of the two states, and of them after any effect, holds of them after the call
+    pub step_both : (X : State → State → Type 0) → X s u → ((x : Effect) → Comes s P x → Comes u P x → X (apply x s) (apply x u)) → X (operator_outcome P c bs s).1 (operator_outcome P c bs u).1
+    step_both X kept moved = (same_made s u _ (operator_plan P c bs) X kept moved (plan_same c bs)).1

@@ -1,5 +1,5 @@
--- What a side obtains, reaches and alters after a call of one of its tasks it had before, but for the entry that the call adds.
--- Assumes nothing.
+-- What a side obtains, reaches and alters after a call of one of its tasks it had before, but for
+-- the entry that the call adds.
 use Rattle.std.proofs.Common.{◌≡◌, ◌⊎◌, ℕ, ◌+◌, ◌/◌, ◌%◌, ◌^◌, ◌<◌, ◌≤◌, true, false, bit_and, bit_or, Some, None, Option, refl, sym, ap, subst, ◌∙◌, inl, inr, arith}
 use Rattle.std.specs.Int.{bit_at}
 use Rattle.std.proofs.lemmas.Bool.{cases_eq, eq-eqb, eqb-true}
@@ -12,7 +12,7 @@ use Rattle.rules.specs.declared.entry.Entry.TheVariants.{Object, Control, Refine
 use Rattle.rules.specs.declared.entry.Refinement.{Refinement}
 use Rattle.rules.specs.declared.entry.Storage.{Storage}
 use Rattle.rules.specs.declared.entry.TypeControl.{TypeControl}
-use Rattle.rules.specs.declared.shown.Descriptor.{Descriptor}
+use Rattle.rules.specs.declared.descriptor.Descriptor.{Descriptor}
 use Rattle.rules.specs.declared.shown.Shown.{Shown}
 use Rattle.rules.specs.State.{State, entry, has, held, kind_of, named, read, shown, slot_at, stack, table, type2, whole, part}
 use Rattle.rules.specs.Operators.{has_parts, refined, with_rights}
@@ -21,7 +21,7 @@ use Rattle.soundness.specs.Sound.{In, Inside, NullOrLive, Sound, names, null, sl
 use Rattle.soundness.proofs.Changes.{SlotIn}
 use Rattle.soundness.proofs.Finds.{shows, slot_shown}
 use Rattle.soundness.proofs.Origins.{Given, Source, as_it_is, with_fewer, with_more}
-use Rattle.soundness.proofs.Words.{named_is, zero_names_nothing}
+use Rattle.rules.proofs.Words.{named_is, zero_names_nothing}
 use Rattle.isolation.specs.Reach.{Alters, HasSlot, Obtains, Reaches, Side, amplified, beneath, in_context, in_shown, only, open_context, written, written_beneath}
 use Rattle.isolation.proofs.Given.{source_obtained}
 use Rattle.isolation.proofs.Sides.{context_there, obtained_holds, obtains_more}
@@ -134,8 +134,8 @@ module _ (s u : State) (q : ℕ) (g : Sound s) (j : Sound u) (m : Moved s u q) w
       ]
 
   module _ (A : Side) (mine : A q) where
-    -- where a descriptor that the side obtains afterwards comes from: what the side had, or the new entry, which is a part of
-    -- what it had, or a new object
+    -- where a descriptor that the side obtains afterwards comes from: what the side had, or the new
+    -- entry, which is a part of what it had, or a new object
     pub data Got (d : Descriptor) : Type 0 where
       of_old : Had s A d → Got d
       of_part : (f : Descriptor) (byte bytes slot slots : ℕ) (from : Source s q f) (parts : has_parts (entry s f.table f.index) ≡ true) (inside : slot + slots ≤ (shown s f.table f.index).slots) →

@@ -3,10 +3,11 @@ pub mod Apart
 pub mod Both
 pub mod Effects
 pub mod Equal
+pub mod Example
+pub mod Gains
 pub mod Given
 pub mod Growth
 pub mod Matches
-pub mod More
 pub mod Moves
 pub mod Runs
 pub mod Same

@@ -1,5 +1,4 @@
 -- When two states are equal in all that a side of tasks reaches in the first.
--- Assumes nothing.
 use Rattle.std.proofs.Common.{◌≡◌, ℕ, length, Some, slice_index, refl, ap}
 use Rattle.rules.specs.declared.entry.Entry.TheVariants.{Object}
 use Rattle.rules.specs.declared.entry.Storage.{Storage}

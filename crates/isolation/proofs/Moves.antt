@@ -1,18 +1,19 @@
--- What a call of one task does to a store, in the words that matter to the other tasks and to what the task obtains.
--- Assumes nothing.
+-- What a call of one task does to a store, in the words that matter to the other tasks and to what
+-- the task obtains.
 use Rattle.std.proofs.Common.{◌≡◌, ◌≢◌, ◌⊎◌, ℕ, ◌+◌, ◌<◌, ◌≤◌, true, length, Some, slice_index}
 use Rattle.bank.specs.Words.{word_at}
 use Rattle.rules.specs.declared.entry.Entry.{Entry}
 use Rattle.rules.specs.declared.entry.Entry.TheVariants.{Object}
 use Rattle.rules.specs.declared.entry.Storage.{Storage}
-use Rattle.rules.specs.declared.shown.Descriptor.{Descriptor}
+use Rattle.rules.specs.declared.descriptor.Descriptor.{Descriptor}
 use Rattle.rules.specs.State.{State, block_start, entry, level_of, named, shown, stack, table}
 use Rattle.rules.specs.Operators.{has_parts, refined}
 use Rattle.soundness.specs.Sound.{In, Takes, slot_of}
 use Rattle.soundness.proofs.Origins.{Given, Source}
 use Rattle.isolation.specs.Reach.{Alters, only}
 
--- the entry that a call adds, if it adds one: a storage object, or a part of what a source of the task shows
+-- the entry that a call adds, if it adds one: a storage object, or a part of what a source of the
+-- task shows
 pub data New (s : State) (q : ℕ) : Type 0 where
   no_entry : New s q
   new_object : Storage → New s q
@@ -33,12 +34,14 @@ RightsOf s q (new_part f byte bytes slot slots from parts inside) d = d.rights �
 abbrev pub fresh : State → ℕ → ℕ
 fresh s q = length (table s q).entries
 
--- what a call of task q may put into a slot: what the task was given, or a descriptor of the entry that is added
+-- what a call of task q may put into a slot: what the task was given, or a descriptor of the entry
+-- that is added
 pub data Put (s : State) (q : ℕ) (n : New s q) (d : Descriptor) : Type 0 where
   given : Given s q d → Put s q n d
   of_new : d.table ≡ q → d.index ≡ fresh s q → RightsOf s q n d → Put s q n d
 
--- a byte that a call of task q may change: one of an object that the task alters, or one that its table has not claimed
+-- a byte that a call of task q may change: one of an object that the task alters, or one that its
+-- table has not claimed
 pub data MayChange (s : State) (q a : ℕ) : Type 0 where
   altered : (t i : ℕ) (o : Storage) → Alters s (only q) t i → entry s t i ≡ Some (Object o) → Takes o a → MayChange s q a
   unclaimed : block_start q + (table s q).claim ≤ a → a < block_start q + 2048 → MayChange s q a

@@ -1,18 +1,28 @@
 -- A separate task cannot tell two stores apart: from single calls to lists of calls.
--- Assumes nothing.
-use Rattle.std.proofs.Common.{◌≡◌, ◌≢◌, ℕ, ◌≤◌, true, List, [], ◌∷◌, length, refl, sym, subst, ◌∙◌, inl, inr, arith, ◌↔◌, Bool, Ok, Err, Result, IfOk, false}
-use Rattle.std.proofs.lemmas.Bool.{cases_eq}
+use Rattle.std.proofs.Common.{◌≡◌, ◌≢◌, ◌⊎◌, ℕ, ◌≤◌, true, List, [], ◌∷◌, length, take, refl, sym, subst, ◌∙◌, inl, inr, arith, ◌↔◌, Bool, Ok, Err, Result, IfOk, false}
+use Rattle.std.proofs.lemmas.Bool.{both_ways, cases_eq, eqb-true}
 use Rattle.std.proofs.lemmas.Bool.Decides.{eqb_tells}
+use Rattle.rules.specs.declared.call.Call.{Call}
+use Rattle.rules.specs.declared.call.Call.TheVariants.{Load as load, Operator as operator}
+use Rattle.rules.specs.declared.call.Load.{Load}
+use Rattle.rules.specs.declared.call.Operator.{Operator}
 use Rattle.rules.specs.State.{State, table}
-use Rattle.rules.specs.Effects.{Effect, apply}
-use Rattle.runs.specs.Calls.{Operator, Outcome, operate, outcome, run, step}
+use Rattle.rules.specs.Effects.{Effect, apply, keep}
+use Rattle.rules.specs.Calls.{load_outcome, operator_outcome, outcome}
+use Rattle.runs.specs.Runs.{Request, outcomes, run, step}
 use Rattle.soundness.specs.Sound.{Sound}
+use Rattle.soundness.proofs.Binds.{step_by}
+use Rattle.soundness.proofs.Loads.{load_plan}
 use Rattle.soundness.proofs.Origins.{Comes}
 use Rattle.soundness.proofs.Operators.{comes_fits}
-use Rattle.soundness.proofs.Steps.{effect_sound, step_by, step_sound}
+use Rattle.soundness.proofs.Plans.{operator_plan}
+use Rattle.soundness.proofs.Steps.{effect_sound, operator_sound}
+use Rattle.runs.specs.declared.request.Request.{Request as CodedRequest}
+use Rattle.runs.specs.Requests.{IsCutOff, IsRun, listed}
+use Rattle.isolation.specs.Lists.{NoneSeen, StoppedInItsShare}
 use Rattle.isolation.specs.Reach.{Side, only, others}
-use Rattle.isolation.specs.Share.{Alike, ChangesOnlyItsShare, IsSealed, Separate}
-use Rattle.isolation.specs.Theorem.{AreComparable, Isolation, OperatorCall, StaysInItsShare, after, calls_of, flown, outcome_by, outcomes_of}
+use Rattle.isolation.specs.Share.{ChangesOnlyItsShare, IsSealed, Separate}
+use Rattle.isolation.specs.Theorem.{AreComparable, Isolation, StaysInItsShare, calls_of, is_by, seen_by}
 use Rattle.isolation.proofs.Alikes.{alike_matches, matches_alike, matches_refl, matches_sym, matches_trans}
 use Rattle.isolation.proofs.Apart.{Apart, apart_kept, other_matches}
 use Rattle.isolation.proofs.Both.{both_matches, both_tables}
@@ -24,11 +34,11 @@ use Rattle.isolation.proofs.Moves.{Moved}
 use Rattle.isolation.proofs.Starts.{sealed_is, sealed_large, sealed_sound}
 
 -- all that goes along with a store
-record Fine (P : ℕ) (s : State) : Type 0 where
-  sound : Sound s
-  sealed : s.sealed ≡ true
-  large : 18432 ≤ length s.bytes
-  apart : Apart s (only P) (others P)
+pub record Fine (P : ℕ) (s : State) : Type 0 where
+  pub sound : Sound s
+  pub sealed : s.sealed ≡ true
+  pub large : 18432 ≤ length s.bytes
+  pub apart : Apart s (only P) (others P)
 
 -- alike, as far as it matters for what comes
 record Like (P : ℕ) (s u : State) : Type 0 where
@@ -38,41 +48,50 @@ record Like (P : ℕ) (s u : State) : Type 0 where
 swap : (s : State) (A B : Side) → Apart s A B → Apart s B A
 swap s A B f t i on_b on_a = let z = f t i on_a on_b in (z.1, z.0)
 
--- every call moves the state
-call_moved : (s : State) → Sound s → (c : OperatorCall) → Moved s (after c s) c.task
-call_moved s g c = step_by s c.task c.operator (λ u. Moved s u c.task) (λ x from. comes_moved s c.task x g from)
+-- a load call changes nothing in a sealed store
+pub load_idle : (s : State) → s.sealed ≡ true → (c : Load) (bs : List ℕ) → (load_outcome c bs s).1 ≡ s
+load_idle s sealed c bs = step_by _ (load_plan c bs) s (λ u. u ≡ s) refl (λ x known. absurd (both_ways s.sealed known.open_yet sealed))
 
-module _ (P : ℕ) (c : OperatorCall) (s : State) (f : Fine P s) where
+-- an operator that a task calls moves a sound store
+pub operator_moves : (q : ℕ) (c : Operator) (bs : List ℕ) (s : State) → Sound s → Moved s (operator_outcome q c bs s).1 q
+operator_moves q c bs s g = step_by _ (operator_plan q c bs) s (λ v. Moved s v q) (comes_moved s q keep g Comes.keeps) (λ x from. comes_moved s q x g from)
+
+module _ (P q : ℕ) (c : Operator) (bs : List ℕ) (s : State) (f : Fine P s) where
   abbrev u : State
-  u = after c s
+  u = (operator_outcome q c bs s).1
 
-  m : Moved s u c.task
-  m = call_moved s f.sound c
+  m : Moved s u q
+  m = operator_moves q c bs s f.sound
 
   sound_after : Sound u
-  sound_after = step_sound s f.sound (operate c.task c.operator)
+  sound_after = operator_sound s f.sound q c bs
 
   apart_after : Apart u (only P) (others P)
   apart_after =
-      elim (cases_eq c.task P) [
-        | inl e ↦ apart_kept s u c.task f.sound sound_after m (only P) (others P) e (λ n. n e) f.apart
-        | inr ne ↦ swap u (others P) (only P) (apart_kept s u c.task f.sound sound_after m (others P) (only P) ne ne (swap s (only P) (others P) f.apart))
+      elim (cases_eq q P) [
+        | inl e ↦ apart_kept s u q f.sound sound_after m (only P) (others P) e (λ n. n e) f.apart
+        | inr ne ↦ swap u (others P) (only P) (apart_kept s u q f.sound sound_after m (others P) (only P) ne ne (swap s (only P) (others P) f.apart))
       ]
 
   fine_after : Fine P u
   fine_after = record { sound = sound_after; sealed = m.sealed ∙ f.sealed; large = omega (arith, m.size, f.large); apart = apart_after }
 
-  -- a call of another task
-  like_after : c.task ≢ P → Like P s u
+  -- if it is another task, nothing changes for P; if it is P itself, nothing for the others
+  pub only_match : q ≢ P → Matches (only P) s u
+  only_match ne = other_matches s u q f.sound sound_after m (others P) (only P) ne ne (swap s (only P) (others P) f.apart)
+
+  pub others_match : q ≡ P → Matches (others P) s u
+  others_match e = other_matches s u q f.sound sound_after m (only P) (others P) e (λ n. n e) f.apart
+
+  like_after : q ≢ P → Like P s u
   like_after ne =
       record {
-        matches = other_matches s u c.task f.sound sound_after m (others P) (only P) ne ne (swap s (only P) (others P) f.apart);
+        matches = only_match ne;
         same_table = sym (m.other_tables P (λ e. ne (sym e)));
       }
 
-  -- a call of the task itself
-  in_share : c.task ≡ P → ChangesOnlyItsShare P s u
-  in_share e = subst (λ q. ChangesOnlyItsShare q s u) e (moved_in_share s u c.task m)
+  in_share : q ≡ P → ChangesOnlyItsShare P s u
+  in_share e = subst (λ p. ChangesOnlyItsShare p s u) e (moved_in_share s u q m)
 
 module _ (P : ℕ) where
   like_refl : (s : State) → Like P s s
@@ -88,82 +107,105 @@ moved_sound : (s : State) (P : ℕ) → Fine P s → (x : Effect) → Comes s P 
 moved_sound s P f x from = effect_sound s f.sound x (comes_fits s f.sound P x from)
 
 -- the task's own call, in two stores that are alike to it
-module _ (P : ℕ) (s u : State) (f : Fine P s) (h : Fine P u) (l : Like P s u) (c : Operator) where
-  outcome_same : (outcome (operate P c) s).0 ≡ (outcome (operate P c) u).0
-  outcome_same = same_outcome P s u l.matches l.same_table f.sound h.sound f.sealed h.sealed f.large h.large c
+module _ (P : ℕ) (s u : State) (f : Fine P s) (h : Fine P u) (l : Like P s u) (c : Operator) (bs : List ℕ) where
+  outcome_same : (operator_outcome P c bs s).0 ≡ (operator_outcome P c bs u).0
+  outcome_same = same_outcome P s u l.matches l.same_table f.sound h.sound f.sealed h.sealed f.large h.large c bs
 
-  like_both : Like P (step (operate P c) s) (step (operate P c) u)
+  like_both : Like P (operator_outcome P c bs s).1 (operator_outcome P c bs u).1
   like_both =
-      step_both P s u l.matches l.same_table f.sound h.sound f.sealed h.sealed f.large h.large (Like P) c (λ x from from'.
+      step_both P s u l.matches l.same_table f.sound h.sound f.sealed h.sealed f.large h.large c bs (Like P) l (λ x from from'.
       record {
         matches = both_matches P s u l.matches l.same_table f.sound h.sound x from from' (reaches_grows s (apply x s) P f.sound (moved_sound s P f x from) (comes_moved s P x f.sound from) (only P) refl);
         same_table = both_tables P s u l.matches l.same_table f.sound h.sound x from;
       })
 
--- what all of a list's calls come to
-all_outcomes : List OperatorCall → State → List Outcome
-all_outcomes [] s = []
-all_outcomes (c ∷ cs) s = outcome_by c s ∷ all_outcomes cs (after c s)
-
--- a call by the task
-module _ (P : ℕ) (s u : State) (f : Fine P s) (h : Fine P u) (l : Like P s u) (c : OperatorCall) (own : c.task ≡ P) where
-  own_outcome : outcome_by c s ≡ outcome_by c u
-  own_outcome = rw own (outcome_same P s u f h l c.operator)
-
-  own_like : Like P (after c s) (after c u)
-  own_like = rw own (like_both P s u f h l c.operator)
-
+-- any call
 module _ (P : ℕ) where
-  -- a run is to the task as if only its own calls were made, in any store that is alike to it
-  follows : (cs : List OperatorCall) (s u : State) → Fine P s → Fine P u → Like P s u → (outcomes_of P cs s ≡ all_outcomes (calls_of P cs) u) × Like P (flown cs s) (flown (calls_of P cs) u)
-  unfolding outcomes_of calls_of run all_outcomes
-  follows [] s u f h l = (refl, l)
-  follows (c ∷ cs) s u f h l =
-      elim (eqb_tells c.task P) [
-        | inl (t, e) ↦
-            let rest = follows cs (after c s) (after c u) (fine_after P c s f) (fine_after P c u h) (own_like P s u f h l c e) in
-            rw t (rw (own_outcome P s u f h l c e, rest.0), rest.1)
+  pub fine_call : (c : Call) (bs : List ℕ) (s : State) → Fine P s → Fine P (outcome c bs s).1
+  unfolding outcome
+  fine_call (load c) bs s f = rw (load_idle s f.sealed c bs) f
+  fine_call (operator q c) bs s f = fine_after P q c bs s f
+
+  call_in_share : (c : Call) (bs : List ℕ) (s : State) → Fine P s → is_by P c ≡ true → ChangesOnlyItsShare P s (outcome c bs s).1
+  unfolding outcome
+  call_in_share (load c) bs s f own = absurd (both_ways false refl own)
+  call_in_share (operator q c) bs s f own = in_share P q c bs s f (eqb-true q P own)
+
+  -- it is the task's own, and the same in two stores that are alike to it
+  abbrev Own : Call → List ℕ → State → State → Type 0
+  Own c bs s u = (is_by P c ≡ true) × ((outcome c bs s).0 ≡ (outcome c bs u).0) × Like P (outcome c bs s).1 (outcome c bs u).1
+
+  -- or it is not, and changes nothing for the task
+  abbrev Foreign : Call → List ℕ → State → State → Type 0
+  Foreign c bs s u = (is_by P c ≡ false) × Like P (outcome c bs s).1 u
+
+  own_or_foreign : (c : Call) (bs : List ℕ) (s u : State) → Fine P s → Fine P u → Like P s u → Own c bs s u ⊎ Foreign c bs s u
+  unfolding outcome
+  own_or_foreign (load c) bs s u f h l = inr (refl, rw (load_idle s f.sealed c bs) l)
+  own_or_foreign (operator q c) bs s u f h l =
+      elim (eqb_tells q P) [
+        | inl (t, e) ↦ inl (t, rw e (outcome_same P s u f h l c bs), rw e (like_both P s u f h l c bs))
         | inr (t, ne) ↦
-            let now = like_after P c s f ne in
-            let fine = fine_after P c s f in
-            let still : Like P (after c s) u = like_trans P (after c s) s u fine f (like_sym P s (after c s) f fine now) l in
-            rw t (follows cs (after c s) u fine h still)
+            let v : State = (operator_outcome q c bs s).1 in
+            let fine = fine_after P q c bs s f in
+            inr (t, like_trans P v s u fine f (like_sym P s v f fine (like_after P q c bs s f ne)) l)
       ]
 
-  fine_flown : (cs : List OperatorCall) (s : State) → Fine P s → Fine P (flown cs s)
-  unfolding run
-  fine_flown [] s f = f
-  fine_flown (c ∷ cs) s f = fine_flown cs (after c s) (fine_after P c s f)
+-- lists of calls
+module _ (P : ℕ) where
+  -- a run is to the task as if only its own calls were made, in any store that is alike to it
+  follows : (rs : List Request) (s u : State) → Fine P s → Fine P u → Like P s u → (seen_by P rs s ≡ outcomes (calls_of P rs) u) × Like P (run rs s) (run (calls_of P rs) u)
+  unfolding outcomes run
+  follows [] s u f h l = (refl, l)
+  follows (r ∷ rs) s u f h l =
+      let fine : Fine P (step r s) = fine_call P r.call r.bytes s f in
+      elim (own_or_foreign P r.call r.bytes s u f h l) [
+        | inl own ↦
+            let rest = follows rs (step r s) (step r u) fine (fine_call P r.call r.bytes u h) own.2 in
+            rw own.0 (rw (own.1, rest.0) refl, rest.1)
+        | inr foreign ↦ rw foreign.0 (follows rs (step r s) u fine h foreign.1)
+      ]
 
-  stays : (cs : List OperatorCall) (s : State) → Fine P s → StaysInItsShare P cs s
+  fine_run : (rs : List Request) (s : State) → Fine P s → Fine P (run rs s)
+  unfolding run
+  fine_run [] s f = f
+  fine_run (r ∷ rs) s f = fine_run rs (step r s) (fine_call P r.call r.bytes s f)
+
+  stays : (rs : List Request) (s : State) → Fine P s → StaysInItsShare P rs s
   stays [] s f = tt
-  stays (c ∷ cs) s f = (in_share P c s f, stays cs (after c s) (fine_after P c s f))
+  stays (r ∷ rs) s f = (call_in_share P r.call r.bytes s f, stays rs (step r s) (fine_call P r.call r.bytes s f))
 
 -- a sealed store in which the task is separate
-sealed_fine : (P : ℕ) (s : State) → IsSealed s → Separate P s → Fine P s
+pub sealed_fine : (P : ℕ) (s : State) → IsSealed s → Separate P s → Fine P s
 sealed_fine P s i apart = record { sound = sealed_sound s i; sealed = sealed_is s i; large = sealed_large s i; apart = apart }
 
 pub isolated : Isolation
-isolated P s u cs ds c =
+isolated P s u ls rs c =
     let f : Fine P s = sealed_fine P s c.sealed c.separate in
     let h : Fine P u = sealed_fine P u c.sealed_too c.separate_too in
     let l : Like P s u = record { matches = alike_matches P s u f.sound h.sound c.alike; same_table = c.alike.same_table } in
-    let left = follows P cs s s f f (like_refl P s) in
-    let right = follows P ds u s h f (like_sym P s u f h l) in
-    let right' : (outcomes_of P ds u ≡ all_outcomes (calls_of P cs) s) × Like P (flown ds u) (flown (calls_of P cs) s) = rw c.same_calls right in
-    let mine = fine_flown P (calls_of P cs) s f in
-    let on_left = fine_flown P cs s f in
-    let on_right = fine_flown P ds u h in
-    let end : Like P (flown cs s) (flown ds u) = like_trans P (flown cs s) (flown (calls_of P cs) s) (flown ds u) on_left mine left.1 (like_sym P (flown ds u) (flown (calls_of P cs) s) on_right mine right'.1) in
+    let left = follows P ls s s f f (like_refl P s) in
+    let right = follows P rs u s h f (like_sym P s u f h l) in
+    let right' : (seen_by P rs u ≡ outcomes (calls_of P ls) s) × Like P (run rs u) (run (calls_of P ls) s) = rw c.same_calls right in
+    let mine = fine_run P (calls_of P ls) s f in
+    let on_left = fine_run P ls s f in
+    let on_right = fine_run P rs u h in
+    let end : Like P (run ls s) (run rs u) = like_trans P (run ls s) (run (calls_of P ls) s) (run rs u) on_left mine left.1 (like_sym P (run rs u) (run (calls_of P ls) s) on_right mine right'.1) in
     record {
       same_outcomes = left.0 ∙ sym right'.0;
-      still_alike = matches_alike P (flown cs s) (flown ds u) on_left.sound on_right.sound end.matches (same_level P (flown cs s) (flown ds u) end.matches) end.same_table;
-      in_its_share = stays P cs s f;
-      in_its_share_too = stays P ds u h;
+      still_alike = matches_alike P (run ls s) (run rs u) on_left.sound on_right.sound end.matches (same_level P (run ls s) (run rs u) end.matches) end.same_table;
+      in_its_share = stays P ls s f;
+      in_its_share_too = stays P rs u h;
     }
 
 -- so whoever runs the lists and compares the outcomes finds no difference
-pub none_seen : {E : Type 0} (P : ℕ) (s u s' u' : State) (cs ds : List OperatorCall) (r : Result Bool E) → AreComparable P s u cs ds → IfOk r (λ _. (s' ≡ flown cs s) × (u' ≡ flown ds u)) →
-    IfOk r (λ b. (b ≡ false) ↔ (outcomes_of P cs s ≡ outcomes_of P ds u)) → IfOk r (λ b. (b ≡ false) × Alike P s' u')
-none_seen P s u s' u' cs ds (Ok b) given made value = let apart = isolated P s u cs ds given in (value.1 apart.same_outcomes, rw (made.0, made.1) apart.still_alike)
-none_seen P s u s' u' cs ds (Err e) given made value = tt
+pub none_seen : (P : ℕ) (xs ys : List CodedRequest) (s u s' u' : State) {E : Type 0} (r : Result Bool E) → AreComparable P s u (listed xs) (listed ys) → IsRun xs s s' → IsRun ys u u' →
+    IfOk r (λ b. (b ≡ false) ↔ (seen_by P (listed xs) s ≡ seen_by P (listed ys) u)) → IfOk r (NoneSeen P xs ys s u s' u')
+none_seen P xs ys s u s' u' (Ok b) given made made' value =
+    let holds = isolated P s u (listed xs) (listed ys) given in
+    record { none = value.1 holds.same_outcomes; still_alike = rw (made, made') holds.still_alike; in_its_share = holds.in_its_share; in_its_share_too = holds.in_its_share_too }
+none_seen P xs ys s u s' u' (Err e) given made made' value = tt
+
+-- and where memory runs out, what was run stays in the share of the task
+pub stopped : (P : ℕ) (xs : List CodedRequest) (s u : State) → IsSealed s → Separate P s → IsCutOff xs s u → StoppedInItsShare P xs s u
+stopped P xs s u is apart (n, made) = record { made = n; is_run = made; in_its_share = stays P (listed (take n xs)) s (sealed_fine P s is apart) }

@@ -1,12 +1,11 @@
 -- What a side of tasks obtains, reaches and alters in a sound state, and where it lies.
--- Assumes nothing.
 use Rattle.std.proofs.Common.{◌≡◌, ℕ, ◌+◌, ◌<◌, ◌≤◌, true, false, List, [], ◌∷◌, Some, None, Option, refl, sym, subst, ◌∙◌, arith}
 use Rattle.std.proofs.lemmas.Bool.{both_ways}
 use Rattle.std.proofs.lemmas.Nat.{or_lt}
 use Rattle.rules.specs.declared.entry.Entry.{Entry}
 use Rattle.rules.specs.declared.entry.Entry.TheVariants.{Object, Control, Refined}
 use Rattle.rules.specs.declared.entry.Storage.{Storage}
-use Rattle.rules.specs.declared.shown.Descriptor.{Descriptor}
+use Rattle.rules.specs.declared.descriptor.Descriptor.{Descriptor}
 use Rattle.rules.specs.declared.shown.Shown.{Shown}
 use Rattle.rules.specs.State.{State, byte_at, entry, level_of, shown, slot_at, stack}
 use Rattle.rules.specs.Operators.{has_parts}
@@ -88,7 +87,8 @@ module _ (s : State) (g : Sound s) where
           ),
         )
 
-    -- what a side reaches is there, and stands in the table of one of its tasks if its level is 1 or more
+    -- what a side reaches is there, and stands in the table of one of its tasks if its level is 1
+    -- or more
     pub reached_there : (t i : ℕ) → Reaches s A t i → (x : Entry) × ((entry s t i ≡ Some x) × (1 ≤ level_of x → A t))
     reached_there t i (Reaches.open_context q c m h) = let x = context_there q c h in (Object x.0, (x.1, λ _. m))
     reached_there t i (named_entry d h) =

@@ -1,44 +1,40 @@
--- A separate task cannot tell two stores apart. Assumes nothing.
-use Rattle.std.specs.Prelude.{◌≡◌, ℕ, ◌≤◌, cond, List, [], ◌∷◌, map, ◌==◌}
+-- A separate task cannot tell two stores apart.
+use Rattle.std.specs.Prelude.{◌≡◌, ℕ, ◌≤◌, Bool, true, false, List, [], ◌∷◌, map, filter, zip, ◌==◌}
+use Rattle.rules.specs.declared.call.Call.{Call}
+use Rattle.rules.specs.declared.call.Call.TheVariants.{Load as load, Operator as operator}
 use Rattle.rules.specs.State.{State}
-use Rattle.runs.specs.Calls.{Call, Operator, Outcome, operate, outcome, run, step}
+use Rattle.rules.specs.Calls.{Outcome}
+use Rattle.runs.specs.Runs.{Request, outcomes, run, step}
 use Rattle.isolation.specs.Share.{Alike, ChangesOnlyItsShare, IsSealed, Separate}
 
--- an operator called by a task
-pub record OperatorCall : Type 0 where
-  pub task : ℕ
-  pub operator : Operator
+-- an operator that task P calls; a load call is no task's
+abbrev pub is_by : ℕ → Call → Bool
+is_by P (load c) = false
+is_by P (operator q c) = q == P
 
-abbrev pub call_by : OperatorCall → Call
-call_by c = operate c.task c.operator
+-- the calls of the task in a list
+abbrev pub calls_of : ℕ → List Request → List Request
+calls_of P rs = filter (λ r. is_by P r.call) rs
 
-abbrev pub outcome_by : OperatorCall → State → Outcome
-outcome_by c s = (outcome (call_by c) s).0
+-- of the outcomes of a list, those of the task's calls
+abbrev pub outcomes_of : ℕ → List Request → List Outcome → List Outcome
+outcomes_of P rs os =
+    map (λ (x : Request × Outcome). x.1) (filter (λ x. is_by P x.0.call) (zip rs os))
 
-abbrev pub after : OperatorCall → State → State
-after c s = step (call_by c) s
-
--- the state after a list of them
-abbrev pub flown : List OperatorCall → State → State
-flown cs s = run (map call_by cs) s
-
--- the calls of one task
-unfoldable pub calls_of : ℕ → List OperatorCall → List OperatorCall
-calls_of P [] = []
-calls_of P (c ∷ cs) = cond (c.task == P) (c ∷ calls_of P cs) (calls_of P cs)
-
--- what they come to for the task: the answers or faults, and the buffers
-unfoldable pub outcomes_of : ℕ → List OperatorCall → State → List Outcome
-outcomes_of P [] s = []
-outcomes_of P (c ∷ cs) s = cond (c.task == P) (outcome_by c s ∷ outcomes_of P cs (after c s)) (outcomes_of P cs (after c s))
+-- what the task sees of a list that is run on a store: the answers or faults of its calls, and the
+-- buffers
+abbrev pub seen_by : ℕ → List Request → State → List Outcome
+seen_by P rs s = outcomes_of P rs (outcomes rs s)
 
 -- no call of the task changes anything outside its share as it stood before that call
-abbrev pub StaysInItsShare : ℕ → List OperatorCall → State → Type 0
+abbrev pub StaysInItsShare : ℕ → List Request → State → Type 0
 StaysInItsShare P [] s = Unit {0}
-StaysInItsShare P (c ∷ cs) s = (c.task ≡ P → ChangesOnlyItsShare P s (after c s)) × StaysInItsShare P cs (after c s)
+StaysInItsShare P (r ∷ rs) s =
+    (is_by P r.call ≡ true → ChangesOnlyItsShare P s (step r s))
+    × StaysInItsShare P rs (step r s)
 
 -- what is asked of a task, two stores and a list of calls for each
-pub record AreComparable (P : ℕ) (s u : State) (cs ds : List OperatorCall) : Type 0 where
+pub record AreComparable (P : ℕ) (s u : State) (ls rs : List Request) : Type 0 where
   -- it is one of the eight tasks
   pub from_1 : 1 ≤ P
   pub to_8 : P ≤ 8
@@ -50,17 +46,18 @@ pub record AreComparable (P : ℕ) (s u : State) (cs ds : List OperatorCall) : T
   pub separate : Separate P s
   pub separate_too : Separate P u
   -- the lists hold the same calls of the task in the same order
-  pub same_calls : calls_of P cs ≡ calls_of P ds
+  pub same_calls : calls_of P ls ≡ calls_of P rs
 
 -- what then holds
-pub record SeesNoDifference (P : ℕ) (s u : State) (cs ds : List OperatorCall) : Type 0 where
-  -- its calls come to the same
-  pub same_outcomes : outcomes_of P cs s ≡ outcomes_of P ds u
+pub record SeesNoDifference (P : ℕ) (s u : State) (ls rs : List Request) : Type 0 where
+  -- the outcomes of its calls are the same
+  pub same_outcomes : seen_by P ls s ≡ seen_by P rs u
   -- afterwards the stores are alike in its share
-  pub still_alike : Alike P (flown cs s) (flown ds u)
+  pub still_alike : Alike P (run ls s) (run rs u)
   -- and none of its calls has changed anything outside its share
-  pub in_its_share : StaysInItsShare P cs s
-  pub in_its_share_too : StaysInItsShare P ds u
+  pub in_its_share : StaysInItsShare P ls s
+  pub in_its_share_too : StaysInItsShare P rs u
 
 abbrev pub Isolation : Type 0
-Isolation = (P : ℕ) (s u : State) (cs ds : List OperatorCall) → AreComparable P s u cs ds → SeesNoDifference P s u cs ds
+Isolation = (P : ℕ) (s u : State) (ls rs : List Request) → AreComparable P s u ls rs →
+    SeesNoDifference P s u ls rs

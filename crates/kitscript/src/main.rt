@@ -1,7 +1,7 @@
 // Runs the script on standard input and prints its answers.
 #![tactic(auto)]
 
-use script::whole::{LONGEST, answer_script};
+use script::{LONGEST, answer_script};
 use std::io;
 use std::io::{Read, Write};
 

@@ -1,6 +1,6 @@
 // What became of calls.
-use rules::fault::Reason;
-use runs::answer::Outcome;
+use rules::Reason;
+use runs::Outcome;
 use std::io;
 
 const REASONS: [Reason; 14] = [

@@ -1,8 +1,7 @@
 -- A signed number of 16 bits and its two bytes, and a record and its six.
--- Assumes nothing.
 use Rattle.std.proofs.Common.{◌≡◌, ℕ, zero, suc, lit<, ◌+◌, ◌*◌, ◌/◌, ◌%◌, ◌^◌, ◌<◌, List, [], ◌∷◌, length, get_or, ℤ, sym, refl, ap, ◌∙◌, arith, w16, SFits, to_z, of_z}
 use Rattle.magnetometer.specs.declared.Record.{Record}
-use Rattle.magnetometer.specs.Bytes.{record_bytes}
+use Rattle.magnetometer.specs.Records.{record_bytes}
 use mir.ValLaws.{of_z_fits}
 use Rattle.std.proofs.lemmas.List.FromFn.{fill_by_all}
 use Rattle.std.proofs.lemmas.Int.{to_z-of_z, of_z-to_z}

@@ -1,56 +1,106 @@
--- Bytes that are stored over the whole of a memory, through one upset, and read back.
--- Assumes nothing.
-use Rattle.std.proofs.Common.{◌≡◌, ℕ, suc, ◌+◌, ◌-◌, ◌^◌, ◌<◌, ◌≤◌, Bool, true, false, cond, ◌&&◌, ltb, List, [], ◌∷◌, map, length, get_or, set, sym, refl, ap, ◌∙◌, inl, inr, arith}
+-- Bytes that are stored in memory, and what is read there after a bit has flipped.
+use Rattle.std.proofs.Common.{◌≡◌, ℕ, ◌+◌, ◌-◌, ◌<◌, ◌≤◌, ◌≢◌, ◌^◌, List, ◌++◌, map, length, get_or, take, sym, ap, ◌∙◌, inl, inr, arith}
 use lib.Bits.{bit_xor}
-use Rattle.std.proofs.lemmas.List.{length-map, map-set, get_or-map, set-get_or, set_past}
-use Rattle.std.proofs.lemmas.Bool.{and_parts, ltb-true, cases_lt, lt-ltb, le-ltb}
+use Rattle.std.proofs.lemmas.List.{length-map, length-set, get_or-map, get_or-set_same, get_or-set_other, get_or-take, take-map, take-append-drop}
+use Rattle.std.proofs.lemmas.Bool.{cases_eq}
 use Rattle.bank.specs.Runs.{read_run, write_run}
-use Rattle.bank.specs.Units.{used}
-use Rattle.bank.proofs.RunLaws.{write_run_whole, read_run_whole}
-use Rattle.bank.proofs.UnitLaws.{used_all}
+use Rattle.bank.specs.Units.{used, unused}
+use Rattle.bank.proofs.RunLaws.{is_read_run, length-read_run, get_or-read_run, length-write_run, get_or-write_run_inside}
+use Rattle.bank.proofs.UnitLaws.{write_run-used, write_run-unused}
 use Rattle.hamming.specs.Code.{code_word, decoded}
 use Rattle.hamming.proofs.Corrects.{word_back, upset_back}
-use Rattle.magnetometer.specs.Upsets.{upset, with_turned}
+use Rattle.magnetometer.specs.Upsets.{flipped}
 
--- a store over the whole of a memory, and a load of it
-pub stored : {X : Type 0} (m bs m' : List X) → length m ≡ length bs → length bs ≤ 65536 → length m' ≡ length m → used m' ≡ write_run (used m) 0 bs → m' ≡ bs
-stored m bs m' e h k w =
-    sym (used_all m' (omega arith)) ∙ w ∙ rw (used_all m (omega arith)) (write_run_whole m bs e)
+-- memory is its used units and the others
+whole : {X : Type 0} (m : List X) → used m ++ unused m ≡ m
+unfolding used unused
+whole m = take-append-drop 65536 m
 
-decoded_words : (bs : List ℕ) → ((i : ℕ) → get_or bs i 0 < 256) → map decoded (map code_word bs) ≡ bs
-decoded_words [] h = refl
-decoded_words (b ∷ bs) h = rw (word_back b (h 0), decoded_words bs (λ i. h (suc i)))
+-- so a run written within the used units is written within memory
+pub written : {X : Type 0} (m m' us : List X) (a : ℕ) → length us ≤ 65536 - a → used m' ≡ write_run (used m) a us → unused m' ≡ unused m → m' ≡ write_run m a us
+written m m' us a h u r =
+    let front : used m' ≡ used (write_run m a us) = u ∙ sym (write_run-used m a us h) in
+    let behind : unused m' ≡ unused (write_run m a us) = r ∙ sym (write_run-unused m a us h) in
+    sym (whole m') ∙ rw (front, behind) (whole (write_run m a us))
 
-turned_back : (bs : List ℕ) (i k : ℕ) → ((j : ℕ) → get_or bs j 0 < 256) → i < length bs → k < 16 → map decoded (set (map code_word bs) i (bit_xor (get_or (map code_word bs) i 0) (2 ^ k))) ≡ bs
-turned_back bs i k h inside less =
-    let w : ℕ = bit_xor (get_or (map code_word bs) i 0) (2 ^ k) in
-    let same : 2 ^ k ≡ 2 ^ (k + 1 - 1) = ap (λ (n : ℕ). 2 ^ n) (omega arith) in
-    let one : decoded w ≡ get_or bs i 0 =
-    ap (λ (v : ℕ). decoded (bit_xor v (2 ^ k))) (get_or-map code_word bs i 0 0 inside) ∙ ap (λ (p : ℕ). decoded (bit_xor (code_word (get_or bs i 0)) p)) same
-    ∙ upset_back (get_or bs i 0) (k + 1) (h i) (omega arith) (omega arith) in
-    map-set decoded (map code_word bs) i w ∙ rw (decoded_words bs h, one) (set-get_or bs i 0)
+-- and a run read within them is read within memory, also of what the units mean
+pub read_used : (m : List ℕ) (a n : ℕ) → a + n ≤ 65536 → read_run (used m) a n ≡ read_run m a n
+unfolding used
+read_used m a n h =
+    let front : List ℕ = take 65536 m in
+    let long : length (read_run front a n) ≡ n = length-read_run front a n in
+    is_read_run m a (read_run front a n) (λ k less. get_or-read_run front a n k (omega arith) ∙ get_or-take 65536 m (a + k) 0 (omega arith))
+    ∙ ap (read_run m a) long
 
--- one turned bit changes nothing of what code words read as
-pub survived : (bs : List ℕ) (i k : ℕ) → ((j : ℕ) → get_or bs j 0 < 256) → map decoded (upset 16 (map code_word bs) i k) ≡ bs
-survived bs i k h = at (ltb i (length (map code_word bs)) && ltb k 16) refl
+pub read_each : (f : ℕ → ℕ) (m : List ℕ) (a n : ℕ) → a + n ≤ 65536 → read_run (map f (used m)) a n ≡ read_run (map f m) a n
+unfolding used
+read_each f m a n h = ap (λ (l : List ℕ). read_run l a n) (sym (take-map f 65536 m)) ∙ read_used (map f m) a n h
+
+-- of words that were stored as the code words of bytes, one flipped, these bytes are read
+pub survived : (before bs : List ℕ) (a word bit : ℕ) → ((i : ℕ) → get_or bs i 0 < 256) → bit < 16 → a + length bs ≤ length before → read_run (map decoded (flipped (write_run before a (map code_word bs)) word bit)) a (length bs) ≡ bs
+survived before bs a word bit small less room = sym (is_read_run (map decoded m) a bs (λ k h. sym (back k h)))
   where
-    at : (b : Bool) → ltb i (length (map code_word bs)) && ltb k 16 ≡ b → map decoded (cond b (set (map code_word bs) i (bit_xor (get_or (map code_word bs) i 0) (2 ^ k))) (map code_word bs)) ≡ bs
-    at true t =
-        let both : (ltb i (length (map code_word bs)) ≡ true) × (ltb k 16 ≡ true) = and_parts (ltb i (length (map code_word bs))) (ltb k 16) t in
-        turned_back bs i k h (rw length-map at (ltb-true i (length (map code_word bs)) both.0)) (ltb-true k 16 both.1)
-    at false f = decoded_words bs h
+    w : List ℕ
+    w = write_run before a (map code_word bs)
 
-pub loaded : (l out : List ℕ) (n : ℕ) → length l ≡ n → out ≡ read_run l 0 n → out ≡ l
-loaded l out n e r = r ∙ ap (read_run l 0) (sym e) ∙ read_run_whole l
+    m : List ℕ
+    m = flipped w word bit
 
--- a unit is turned where there are such a unit and such a bit, and nothing else is
-pub turned_is : (n : ℕ) (m : List ℕ) (i k : ℕ) → with_turned (λ u j. cond (ltb j n) (bit_xor u (2 ^ j)) u) m i k 0 ≡ upset n m i k
-turned_is n m i k =
-    elim (cases_lt i (length m)) [
-      | inl less ↦ rw (lt-ltb i (length m) less) (at (ltb k n))
-      | inr past ↦ set_past m i _ past ∙ rw (le-ltb i (length m) past)
-    ]
+    long : length w ≡ length before
+    long = length-write_run before a (map code_word bs)
+
+    stood : (k : ℕ) → k < length bs → get_or w (a + k) 0 ≡ code_word (get_or bs k 0)
+    stood k h =
+        let inside : k < length (map code_word bs) = rw length-map h in
+        get_or-write_run_inside before a (map code_word bs) k inside (omega arith) ∙ get_or-map code_word bs k 0 0 h
+
+    meant : (k : ℕ) → k < length bs → decoded (get_or m (a + k) 0) ≡ get_or bs k 0
+    meant k h =
+        elim (cases_eq (a + k) word) [
+          | inl here ↦
+              let there : word < length w = omega (arith, long) in
+              let now : get_or m (a + k) 0 ≡ bit_xor (code_word (get_or bs k 0)) (2 ^ bit) =
+              ap (λ (i : ℕ). get_or m i 0) here ∙ get_or-set_same w word _ 0 there
+              ∙ ap (λ (v : ℕ). bit_xor v (2 ^ bit)) (ap (λ (i : ℕ). get_or w i 0) (sym here) ∙ stood k h) in
+              let same : 2 ^ bit ≡ 2 ^ (bit + 1 - 1) = ap (λ (n : ℕ). 2 ^ n) (omega arith) in
+              ap decoded (now ∙ ap (bit_xor (code_word (get_or bs k 0))) same)
+              ∙ upset_back (get_or bs k 0) (bit + 1) (small k) (omega arith) (omega arith)
+          | inr other ↦
+              ap decoded (get_or-set_other w word (a + k) _ 0 other ∙ stood k h) ∙ word_back (get_or bs k 0) (small k)
+        ]
+
+    back : (k : ℕ) → k < length bs → get_or (map decoded m) (a + k) 0 ≡ get_or bs k 0
+    back k h =
+        let inside : a + k < length m = rw length-set (omega (arith, long)) in
+        get_or-map decoded m (a + k) 0 0 inside ∙ meant k h
+
+-- of bytes that were stored, one flipped, the bytes are read with that one flipped
+pub shown : (before bs : List ℕ) (a byte bit : ℕ) → a + length bs ≤ length before → read_run (flipped (write_run before a bs) (a + byte) bit) a (length bs) ≡ flipped bs byte bit
+shown before bs a byte bit room =
+    sym (ap (read_run m a) (length-set bs byte _)) ∙ sym (is_read_run m a (flipped bs byte bit) (λ k h. sym (each k (rw length-set at h))))
   where
-    at : (b : Bool) → set m i (cond b (bit_xor (get_or m i 0) (2 ^ k)) (get_or m i 0)) ≡ cond b (set m i (bit_xor (get_or m i 0) (2 ^ k))) m
-    at true = refl
-    at false = set-get_or m i 0
+    w : List ℕ
+    w = write_run before a bs
+
+    m : List ℕ
+    m = flipped w (a + byte) bit
+
+    long : length w ≡ length before
+    long = length-write_run before a bs
+
+    stood : (k : ℕ) → k < length bs → get_or w (a + k) 0 ≡ get_or bs k 0
+    stood k h = get_or-write_run_inside before a bs k h (omega arith)
+
+    each : (k : ℕ) → k < length bs → get_or m (a + k) 0 ≡ get_or (flipped bs byte bit) k 0
+    each k h =
+        elim (cases_eq k byte) [
+          | inl here ↦
+              let there : a + byte < length w = omega (arith, long) in
+              let less : byte < length bs = omega arith in
+              ap (λ (i : ℕ). get_or m (a + i) 0) here ∙ get_or-set_same w (a + byte) _ 0 there
+              ∙ ap (λ (v : ℕ). bit_xor v (2 ^ bit)) (stood byte less)
+              ∙ sym (get_or-set_same bs byte _ 0 less) ∙ ap (λ (i : ℕ). get_or (flipped bs byte bit) i 0) (sym here)
+          | inr other ↦
+              let apart : a + k ≢ a + byte = omega arith in
+              get_or-set_other w (a + byte) (a + k) _ 0 apart ∙ stood k h ∙ sym (get_or-set_other bs byte k _ 0 other)
+        ]

@@ -1,2 +1,2 @@
-pub mod Bytes
+pub mod Records
 pub mod Upsets

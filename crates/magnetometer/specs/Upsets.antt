@@ -1,10 +1,27 @@
--- What radiation does to memory. Assumes nothing.
-use Rattle.std.specs.Prelude.{ℕ, ◌^◌, cond, ◌&&◌, List, length, bit_xor, nat_lt, slice_index, slice_index_or, slice_set}
+-- What one flipped bit of memory does to a record that is stored there.
+use Rattle.std.specs.Prelude.{◌≡◌, ℕ, ◌+◌, ◌^◌, ◌<◌, ◌≤◌, List, length, map, bit_xor, slice_index, slice_set}
+use Rattle.bank.specs.Runs.{write_run}
+use Rattle.hamming.specs.Code.{code_word}
+use Rattle.magnetometer.specs.declared.Record.{Record}
+use Rattle.magnetometer.specs.Records.{IsInRange, record_bytes}
 
--- memory of units of the given width after one bit of one unit has turned, if there is such a unit and such a bit
-abbrev pub upset : ℕ → List ℕ → ℕ → ℕ → List ℕ
-upset width m i k = cond (nat_lt i (length m) && nat_lt k width) (slice_set m i (bit_xor (slice_index m i) (2 ^ k))) m
+-- memory, or a record's bytes, after one bit of the unit at i has flipped
+abbrev pub flipped : List ℕ → ℕ → ℕ → List ℕ
+flipped m i bit = slice_set m i (bit_xor (slice_index m i) (2 ^ bit))
 
--- memory after one bit of one unit has turned, if there is such a unit; d stands for one that is not there
-abbrev pub with_turned : {X : Type 0} → (X → ℕ → X) → List X → ℕ → ℕ → X → List X
-with_turned turned m i k d = slice_set m i (turned (slice_index_or m i d) k)
+-- from coded memory the record is read that was stored there, whichever bit of whichever word has
+-- flipped since
+abbrev pub SurvivesAnyFlip : List ℕ → ℕ → Record → Type 0
+SurvivesAnyFlip memory address read =
+    (stored : Record) (before : List ℕ) (word bit : ℕ)
+    → IsInRange stored → bit < 16 → address + 6 ≤ length before
+    → memory ≡ flipped (write_run before address (map code_word (record_bytes stored))) word bit
+    → read ≡ stored
+
+-- from plain memory the record is read with the bit flipped that has flipped since it was stored
+abbrev pub ShowsTheFlip : List ℕ → ℕ → Record → Type 0
+ShowsTheFlip memory address read =
+    (stored : Record) (before : List ℕ) (byte bit : ℕ)
+    → address + 6 ≤ length before
+    → memory ≡ flipped (write_run before address (record_bytes stored)) (address + byte) bit
+    → record_bytes read ≡ flipped (record_bytes stored) byte bit

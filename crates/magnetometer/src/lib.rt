@@ -1,34 +1,35 @@
-// A magnetometer record in a memory bank, and what one turned bit of that memory does to it.
+//! A magnetometer record in memory, and what is read of it after a bit of that memory has flipped.
 #![tactic(auto)]
 
-ghost use Rattle.std.specs.Prelude.{◌≡◌, ◌+◌, ◌*◌, ◌<◌, ◌≤◌, ◌++◌, Some, codes, length, unsigned_abs};
+ghost use Rattle.std.specs.Prelude.{◌≡◌, ◌+◌, ◌*◌, ◌<◌, ◌≤◌, Some, length, map, min, unsigned_abs};
 ghost use Rattle.bank.specs.Runs.{read_run, write_run};
 ghost use Rattle.bank.specs.Units.{used};
-ghost use Rattle.magnetometer.specs.Bytes.{record_bytes};
-ghost use Rattle.magnetometer.specs.Upsets.{upset, with_turned};
-ghost use Rattle.std.specs.Fmt.{signed_decimal};
+ghost use Rattle.hamming.specs.Code.{decoded};
+ghost use Rattle.magnetometer.specs.Records.{length_squared, record_bytes, record_text};
+ghost use Rattle.magnetometer.specs.Upsets.{ShowsTheFlip, SurvivesAnyFlip, flipped};
 ghost use Rattle.std.specs.Int.{w16};
 ghost use Rattle.std.proofs.Common.{to_z};
 
-mod cell;
-pub mod tally;
+mod tally;
 
-use bank::Bank;
-use bank::lent::{LentBank, Unit};
-use cell::Cell;
+use bank::{Bank, LentBank, Unit};
 use std::fmt::{self, Display, Write};
+pub use tally::Tally;
 
-// The three components of the field, in nanotesla.
-#[derive(Clone, Copy, PartialEq, Eq)]
+/// A reading of the magnetic field.
+#[derive(Clone, Copy, Debug, PartialEq, Eq)]
 pub struct Record {
+    /// The component along x, in nanotesla.
     pub x: i16,
+    /// The component along y, in nanotesla.
     pub y: i16,
+    /// The component along z, in nanotesla.
     pub z: i16,
 }
 
-// x, y and z, each as wide as the format asks.
+/// x, y and z, each as wide as the format asks.
 impl fmt::Display for Record {
-    ghost output = { λ v. Some (signed_decimal v.x ++ codes " " ++ signed_decimal v.y ++ codes " " ++ signed_decimal v.z) };
+    ghost output = { λ v. Some (record_text v) };
 
     fn fmt<W: fmt::Write>(&self, f: &mut fmt::Formatter<W>) -> fmt::Result {
         self.x.fmt(f)?;
@@ -39,7 +40,7 @@ impl fmt::Display for Record {
     }
 }
 
-// x, y and z, each with its low byte first.
+/// The six bytes of a record: x, y and z, each with its low byte first.
 impl From<Record> for [u8; 6] {
     ghost from_gives = { λ v bytes. bytes ≡ record_bytes v };
 
@@ -51,6 +52,7 @@ impl From<Record> for [u8; 6] {
     }
 }
 
+/// The record that six bytes make: x, y and z, each with its low byte first.
 impl From<[u8; 6]> for Record {
     ghost from_gives = { λ bytes v. record_bytes v ≡ bytes };
 
@@ -65,52 +67,80 @@ impl From<[u8; 6]> for Record {
 }
 
 impl Record {
-    // The length of the field vector, rounded down.
+    /// The length of the field vector in nanotesla, rounded down.
     pub fn length(self) -> u32
-        ensures low { result * result ≤ unsigned_abs self.x * unsigned_abs self.x + unsigned_abs self.y * unsigned_abs self.y + unsigned_abs self.z * unsigned_abs self.z }
-        ensures high { unsigned_abs self.x * unsigned_abs self.x + unsigned_abs self.y * unsigned_abs self.y + unsigned_abs self.z * unsigned_abs self.z < (result + 1) * (result + 1) }
+        ensures low { result * result ≤ length_squared self }
+        ensures high { length_squared self < (result + 1) * (result + 1) }
     {
         (square(self.x) + square(self.y) + square(self.z)).isqrt()
     }
 
-    // The record as it is read from coded memory after one bit of one of its words has turned.
-    pub fn after_coded_upset(self, word: usize, bit: u32) -> Record
-        ensures { result ≡ self }
+    /// Stores the record in a bank over this memory, one unit for each of its six bytes from an
+    /// address on: in words their code words, in bytes the bytes themselves.
+    pub fn store<U: Unit>(self, memory: &mut [U], address: u32)
+        requires { address + 6 ≤ min (length memory.old) 65536 }
+        ensures { memory.new ≡ write_run memory.old address (U.units_of (record_bytes self)) }
     {
-        self.after_upset(&mut [0u16; 6], word, bit)
+        write(memory, address, &<[u8; 6]>::from(self));
     }
 
-    // The record as it is read from plain memory after one bit of one of its bytes has turned.
-    pub fn after_plain_upset(self, byte: usize, bit: u32) -> Record
-        ensures { record_bytes result ≡ upset 8 (record_bytes self) byte bit }
+    /// The record that a coded bank over this memory reads from an address on: the one that was
+    /// stored there, also if any one bit of any one word has flipped since.
+    #[tactic(auto, using(crate::proofs::Survives::read_each))]
+    pub fn read_coded(words: &mut [u16], address: u32) -> Record
+        requires { address + 6 ≤ min (length words.old) 65536 }
+        ensures value { record_bytes result ≡ read_run (map decoded words.old) address 6 }
+        ensures survives { SurvivesAnyFlip words.old address result }
+        ensures kept { words.new ≡ words.old }
     {
-        self.after_upset(&mut [0u8; 6], byte, bit)
+        read(words, address)
     }
 
-    // The record as it is read from a bank over six units of memory after one bit of one of them has turned.
-    fn after_upset<U: Cell>(self, memory: &mut [U], at: usize, bit: u32) -> Record
-        requires { length memory.old ≡ 6 }
-        ensures { (d : U) → record_bytes result ≡ U.bytes_of (with_turned U.turned (U.units_of (record_bytes self)) at bit d) }
+    /// The record that a plain bank over this memory reads from an address on: the one that was
+    /// stored there. If one bit has flipped since, that bit of it has flipped and no other.
+    #[tactic(auto, using(crate::proofs::Survives::read_used))]
+    pub fn read_plain(bytes: &mut [u8], address: u32) -> Record
+        requires { address + 6 ≤ min (length bytes.old) 65536 }
+        ensures value { record_bytes result ≡ read_run bytes.old address 6 }
+        ensures shows { ShowsTheFlip bytes.old address result }
+        ensures kept { bytes.new ≡ bytes.old }
     {
-        store(memory, &<[u8; 6]>::from(self));
-        cell::turn(memory, at, bit);
-        let mut bytes = [0; 6];
-        load(memory, &mut bytes);
-        Record::from(bytes)
+        read(bytes, address)
     }
 }
 
-fn store<U: Unit>(memory: &mut [U], bytes: &[u8])
-    ensures { used memory.new ≡ write_run (used memory.old) 0 (U.units_of bytes.now) }
+/// Flips one bit of one word of memory, as radiation does.
+pub fn flip_in_word(words: &mut [u16], word: usize, bit: u32)
+    requires word { word < length words.old }
+    requires bit { bit < 16 }
+    ensures { words.new ≡ flipped words.old word bit }
 {
-    LentBank::new(memory).write_run(0, bytes);
+    words[word] ^= 1 << bit;
 }
 
-fn load<U: Unit>(memory: &mut [U], bytes: &mut [u8])
-    ensures read { bytes.new ≡ read_run (U.bytes_of (used memory.old)) 0 (length bytes.old) }
+/// Flips one bit of one byte of memory, as radiation does.
+pub fn flip_in_byte(bytes: &mut [u8], byte: usize, bit: u32)
+    requires byte { byte < length bytes.old }
+    requires bit { bit < 8 }
+    ensures { bytes.new ≡ flipped bytes.old byte bit }
+{
+    bytes[byte] ^= 1 << bit;
+}
+
+fn write<U: Unit>(memory: &mut [U], address: u32, bytes: &[u8])
+    requires { address + length bytes.now ≤ 65536 }
+    ensures { memory.new ≡ write_run memory.old address (U.units_of bytes.now) }
+{
+    LentBank::new(memory).write_run(address, bytes);
+}
+
+fn read<U: Unit>(memory: &mut [U], address: u32) -> Record
+    ensures value { record_bytes result ≡ read_run (U.bytes_of (used memory.old)) address 6 }
     ensures kept { memory.new ≡ memory.old }
 {
-    LentBank::new(memory).read_run(0, bytes);
+    let mut bytes = [0; 6];
+    LentBank::new(memory).read_run(address, &mut bytes);
+    Record::from(bytes)
 }
 
 fn reading(low: u8, high: u8) -> i16

@@ -1,2 +1,3 @@
-pub mod GrantedWord
+pub mod Entries
 pub mod Unions
+pub mod Words

@@ -1,5 +1,4 @@
 -- The rights in one set or another are rights.
--- Assumes nothing.
 use Rattle.std.proofs.Common.{◌≡◌, ℕ, ◌<◌, ◌%◌, bit_or, arith}
 use Rattle.std.proofs.lemmas.Nat.{or_lt}
 

@@ -1,7 +1,7 @@
--- What the enums of the code stand for. Assumes nothing.
+-- What the enums of the code stand for.
 use Rattle.std.specs.Prelude.{ℕ}
-use Rattle.rules.specs.declared.right.Right.{Right}
-use Rattle.rules.specs.declared.right.Right.TheVariants.{Read, Write, Type1, Type2, Type3, Delete}
+use Rattle.rules.specs.declared.rights.Right.{Right}
+use Rattle.rules.specs.declared.rights.Right.TheVariants.{Read, Write, Type1, Type2, Type3, Delete}
 use Rattle.rules.specs.State.{read, write, type1, type2, delete}
 
 -- the number of each right

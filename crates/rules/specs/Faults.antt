@@ -1,4 +1,4 @@
--- The numbers, layers and letters of faults. Assumes nothing.
+-- The numbers, layers and letters of faults.
 use Rattle.std.specs.Prelude.{ℕ}
 use Rattle.rules.specs.declared.fault.Layer.{Layer}
 use Rattle.rules.specs.declared.fault.Layer.TheVariants.{Call, Selector, Descriptor, Object}

@@ -6,3 +6,4 @@ pub mod Faults
 pub mod Texts
 pub mod Loading
 pub mod Operators
+pub mod Calls

@@ -1,5 +1,6 @@
--- The six load calls. Assumes nothing.
+-- The six load calls.
 use Rattle.std.specs.Prelude.{ℕ, ◌*◌, Bool, true, false, not, ◌&&◌, ◌||◌, List, length, Some, None, Ok, Option, Result, ◌==◌, nat_le, nat_lt}
+use Rattle.std.specs.Option.{is_some}
 use Rattle.rules.specs.declared.entry.Entry.{Entry}
 use Rattle.rules.specs.declared.entry.Entry.TheVariants.{Object, Control, Refined}
 use Rattle.rules.specs.declared.fault.Fault.{Fault}
@@ -26,7 +27,8 @@ making s t n k kind lvl q = adding s t (new_object s t n k kind lvl) q
 unfoldable pub place_plan : ℕ → ℕ → ℕ → ℕ → State → Result (Planned ℕ) Fault
 place_plan t n k kind s =
     loading s 0 ≫= λ _.
-    in_range (nat_lt t 9 && nat_le n 2048 && nat_le k 512 && (kind == 0 || user_kind kind)) 0 ≫= λ _.
+    in_range (nat_lt t 9 && nat_le n 2048 && nat_le k 512 && (kind == 0 || user_kind kind)) 0
+    ≫= λ _.
     making s t n k kind 0 0
 
 -- control: a type control; the answer is its index
@@ -50,36 +52,41 @@ task_plan q k s =
     in_range (nat_le 4 k && nat_le k 64) q ≫= λ _.
     starting s q k
 
--- a context may not be named
+-- a context may not be named; whether it is there is another test
 abbrev pub nameable : Option Entry → Bool
 nameable (Some e) = not (kind_of e == 1)
 nameable None = true
 
--- only a storage object has slots to grant into and bytes to fill
+-- only a storage object has slots to grant into and bytes to fill; whether it is there is another
+-- test
 abbrev pub holds : Option Entry → Bool
 holds (Some (Object o)) = true
 holds (Some (Control c)) = false
 holds (Some (Refined r)) = false
 holds None = true
 
-abbrev pub exists : Option Entry → Bool
-exists (Some e) = true
-exists None = false
-
 -- grant: a descriptor written over any slot of a storage object
 unfoldable pub grant_plan : ℕ → ℕ → ℕ → ℕ → ℕ → ℕ → State → Result (Planned (Unit {0})) Fault
 grant_plan t i slot nt ni rights s =
     loading s 0 ≫= λ _.
     check (holds (entry s t i) && nameable (entry s nt ni)) (refusal WrongType 0) ≫= λ _.
-    in_range (exists (entry s nt ni) && (exists (entry s t i) && nat_lt slot (shown s t i).slots && nat_le rights 63)) 0 ≫= λ _.
-    Ok (record { answer = tt; effect = put_word (record { by = shown s t i; at = slot }) (encode (record { table = nt; index = ni; rights = rights })) })
+    in_range
+    (is_some (entry s nt ni)
+    && (is_some (entry s t i) && nat_lt slot (shown s t i).slots && nat_le rights 63))
+    0 ≫= λ _.
+    Ok (record {
+      answer = tt;
+      effect =
+          put_word (record { by = shown s t i; at = slot })
+          (encode (record { table = nt; index = ni; rights = rights }));
+    })
 
 -- fill: data bytes of a storage object written
 unfoldable pub fill_plan : ℕ → ℕ → ℕ → List ℕ → State → Result (Planned (Unit {0})) Fault
 fill_plan t i offset bs s =
     loading s 0 ≫= λ _.
     check (holds (entry s t i)) (refusal WrongType 0) ≫= λ _.
-    in_range (exists (entry s t i) && fits offset (length bs) (shown s t i).bytes) 0 ≫= λ _.
+    in_range (is_some (entry s t i) && fits offset (length bs) (shown s t i).bytes) 0 ≫= λ _.
     Ok (record { answer = tt; effect = write_bytes (byte_at (shown s t i) offset) bs })
 
 -- seal: loading ends

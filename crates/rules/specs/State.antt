@@ -1,12 +1,13 @@
--- The state of a store, the words in its slots and what they name. Assumes nothing.
-use Rattle.std.specs.Prelude.{ℕ, ◌+◌, ◌-◌, ◌*◌, ◌/◌, ◌%◌, Bool, true, false, cond, ◌&&◌, List, [], length, replicate, Some, None, Option, ◌==◌, slice_index_or}
+-- The state of a store, the words in its slots and what they name.
+use Rattle.std.specs.Prelude.{ℕ, ◌+◌, ◌-◌, ◌*◌, ◌/◌, ◌%◌, Bool, false, if◌then◌else◌, ◌&&◌, List, [], length, replicate, Some, None, Option, ◌==◌, slice_index_or}
 use Rattle.std.specs.List.{slice_get}
+use Rattle.std.specs.Option.{is_some}
 use Rattle.bank.specs.Words.{word_at}
 use Rattle.rules.specs.declared.entry.Entry.{Entry}
 use Rattle.rules.specs.declared.entry.Entry.TheVariants.{Object, Control, Refined}
 use Rattle.rules.specs.declared.entry.Storage.{Storage}
 use Rattle.rules.specs.declared.entry.Refinement.{Refinement}
-use Rattle.rules.specs.declared.shown.Descriptor.{Descriptor}
+use Rattle.rules.specs.declared.descriptor.Descriptor.{Descriptor}
 use Rattle.rules.specs.declared.shown.Place.{Place}
 use Rattle.rules.specs.declared.shown.Shown.{Shown}
 
@@ -15,7 +16,8 @@ pub record Table : Type 0 where
   pub entries : List Entry
   pub claim : ℕ
 
--- tables 0 to 8; for each of them the indices of its task's open contexts, the current one first; the seal; the bank's list
+-- tables 0 to 8; for each of them the indices of its task's open contexts, the current one first;
+-- whether the store is sealed; the bytes of its bank
 pub record State : Type 0 where
   pub tables : List Table
   pub stacks : List (List ℕ)
@@ -27,11 +29,14 @@ no_table = record { entries = []; claim = 0 }
 
 -- the state of a store that was just made
 unfoldable pub empty : List ℕ → State
-empty l = record { tables = replicate 9 no_table; stacks = replicate 9 []; sealed = false; bytes = l }
+empty l =
+    record { tables = replicate 9 no_table; stacks = replicate 9 []; sealed = false; bytes = l }
 
+-- a table by its number
 unfoldable pub table : State → ℕ → Table
 table s t = slice_index_or s.tables t no_table
 
+-- the open contexts of a task
 unfoldable pub stack : State → ℕ → List ℕ
 stack s q = slice_index_or s.stacks q []
 
@@ -39,10 +44,11 @@ stack s q = slice_index_or s.stacks q []
 unfoldable pub level : State → ℕ → ℕ
 level s q = length (stack s q)
 
+-- an entry by its table and its index there
 unfoldable pub entry : State → ℕ → ℕ → Option Entry
 entry s t i = slice_get (table s t).entries i
 
--- the block of a table
+-- where the block of a table begins
 abbrev pub block_start : ℕ → ℕ
 block_start t = 2048 * t
 
@@ -75,13 +81,10 @@ encode d = d.index + d.table * 4096 + 16777216 + d.rights * 33554432
 unfoldable pub valid : ℕ → Bool
 valid w = w / 16777216 % 2 == 1 && w / 2147483648 % 2 == 0
 
-abbrev pub is_there : Option Entry → Bool
-is_there (Some e) = true
-is_there None = false
-
 -- what a word names; it counts as null unless it is valid and the entry exists
 unfoldable pub named : State → ℕ → Option Descriptor
-named s w = cond (valid w && is_there (entry s (decode w).table (decode w).index)) (Some (decode w)) None
+named s w =
+    if valid w && is_some (entry s (decode w).table (decode w).index) then Some (decode w) else None
 
 -- the rights, each by the number that stands for it
 abbrev pub read : ℕ
@@ -103,21 +106,52 @@ delete = 32
 abbrev pub has : ℕ → ℕ → Bool
 has right rights = rights / right % 2 == 1
 
+-- no slots and no data bytes are shown
 abbrev pub nothing : Shown
-nothing = record { owner = 0; object = 0; base = 0; byte = 0; bytes = 0; slot = 0; slots = 0; level = 0 }
+nothing =
+    record {
+      owner = 0;
+      object = 0;
+      base = 0;
+      byte = 0;
+      bytes = 0;
+      slot = 0;
+      slots = 0;
+      level = 0;
+    }
 
 -- a storage object shows all that it has
 abbrev pub whole : ℕ → ℕ → Storage → Shown
-whole t i o = record { owner = t; object = i; base = o.base; byte = 0; bytes = o.bytes; slot = 0; slots = o.slots; level = o.level }
+whole t i o =
+    record {
+      owner = t;
+      object = i;
+      base = o.base;
+      byte = 0;
+      bytes = o.bytes;
+      slot = 0;
+      slots = o.slots;
+      level = o.level;
+    }
 
 -- a refinement shows its runs of the storage object beneath
 abbrev pub part : Refinement → Option Entry → Shown
-part r (Some (Object o)) = record { owner = r.table; object = r.index; base = o.base; byte = r.byte; bytes = r.bytes; slot = r.slot; slots = r.slots; level = o.level }
+part r (Some (Object o)) =
+    record {
+      owner = r.table;
+      object = r.index;
+      base = o.base;
+      byte = r.byte;
+      bytes = r.bytes;
+      slot = r.slot;
+      slots = r.slots;
+      level = o.level;
+    }
 part r (Some (Control c)) = nothing
 part r (Some (Refined p)) = nothing
 part r None = nothing
 
--- a type control shows no slots and no data bytes
+-- what an entry shows; a type control shows no slots and no data bytes
 abbrev pub shown_by : State → ℕ → ℕ → Option Entry → Shown
 shown_by s t i (Some (Object o)) = whole t i o
 shown_by s t i (Some (Control c)) = nothing
@@ -127,7 +161,8 @@ shown_by s t i None = nothing
 unfoldable pub shown : State → ℕ → ℕ → Shown
 shown s t i = shown_by s t i (entry s t i)
 
--- where a data byte that is shown lies, and where a slot begins: slot 0 of an object lies four bytes below its base
+-- where a data byte that is shown lies, and where a slot begins: slot 0 of an object lies four
+-- bytes below its base
 abbrev pub byte_at : Shown → ℕ → ℕ
 byte_at v j = v.base + (v.byte + j)
 

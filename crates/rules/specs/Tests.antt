@@ -1,12 +1,13 @@
--- The tests that calls are made of, each giving what it finds or the fault of its sentence. Assumes nothing.
-use Rattle.std.specs.Prelude.{ℕ, ◌+◌, ◌/◌, ◌%◌, Bool, true, false, not, ◌&&◌, List, [], ◌∷◌, length, Some, None, Ok, Err, Option, Result, ◌==◌, nat_le, nat_lt}
+-- The tests that calls are made of. Each gives what it finds or its fault, whose number stands
+-- beside it.
+use Rattle.std.specs.Prelude.{ℕ, ◌+◌, ◌/◌, ◌%◌, Bool, true, false, if◌then◌else◌, not, ◌&&◌, List, [], ◌∷◌, length, Some, None, Ok, Err, Option, Result, ◌==◌, nat_le, nat_lt}
 use Rattle.rules.specs.declared.entry.Entry.{Entry}
 use Rattle.rules.specs.declared.entry.Entry.TheVariants.{Object, Control, Refined}
 use Rattle.rules.specs.declared.entry.TypeControl.{TypeControl}
 use Rattle.rules.specs.declared.fault.Fault.{Fault}
 use Rattle.rules.specs.declared.fault.Reason.{Reason}
 use Rattle.rules.specs.declared.fault.Reason.TheVariants.{SmallBank, WrongPhase, NoTask, NullEnvironment, EnvironmentRight, NoSlot, NullSource, MissingRight, WrongType, NotDeletable, OutOfRange, StoringRule, NoRoom}
-use Rattle.rules.specs.declared.shown.Descriptor.{Descriptor}
+use Rattle.rules.specs.declared.descriptor.Descriptor.{Descriptor}
 use Rattle.rules.specs.declared.shown.Shown.{Shown}
 use Rattle.rules.specs.declared.shown.Place.{Place}
 use Rattle.bank.specs.Words.{word_at}
@@ -18,6 +19,7 @@ abbrev pub ◌≫=◌ : {X Y : Type 0} → Result X Fault → (X → Result Y Fa
 Ok x ≫= f = f x
 Err e ≫= f = Err e
 
+-- a condition must hold, and something must be there
 abbrev pub check : Bool → Fault → Result (Unit {0}) Fault
 check true f = Ok tt
 check false f = Err f
@@ -26,10 +28,6 @@ abbrev pub some : {X : Type 0} → Option X → Fault → Result X Fault
 some (Some x) f = Ok x
 some None f = Err f
 
-abbrev pub choose : {X : Type 0} → Bool → X → X → X
-choose true x y = x
-choose false x y = y
-
 -- a fault of no operand, and one of an operand
 abbrev pub refusal : Reason → ℕ → Fault
 refusal r q = record { reason = r; task = q; place = 0; selector = 0 }
@@ -37,12 +35,14 @@ refusal r q = record { reason = r; task = q; place = 0; selector = 0 }
 abbrev pub refusal_at : Reason → ℕ → ℕ → ℕ → Fault
 refusal_at r q p sel = record { reason = r; task = q; place = p; selector = sel }
 
--- 1: a store over a bank of fewer than 18,432 bytes refuses all calls; 2: a load call comes before sealing, an operator after it
+-- 1: a store over a bank of fewer than 18,432 bytes refuses all calls; 2: a load call comes before
+-- sealing, an operator after it
 unfoldable pub loading : State → ℕ → Result (Unit {0}) Fault
 loading s q =
     check (nat_le 18432 (length s.bytes)) (refusal SmallBank q) ≫= λ _.
     check (not s.sealed) (refusal WrongPhase q)
 
+-- the current one of a task's open contexts
 abbrev pub current : List ℕ → Option ℕ
 current [] = None
 current (c ∷ cs) = Some c
@@ -54,12 +54,15 @@ operator s q =
     check s.sealed (refusal WrongPhase q) ≫= λ _.
     some (current (stack s q)) (refusal NoTask q)
 
--- 5, 6: what the environment of a selector shows, given its current context c and the right that is needed there
+-- 5, 6: what the environment of a selector shows, given its current context c and the right that is
+-- needed there
 unfoldable pub environment : ℕ → State → ℕ → ℕ → ℕ → ℕ → Result Shown Fault
 environment right s q c p sel =
-    choose (sel % 4 == 0)
-    (Ok (shown s q c))
-    (some (named s (word_at s.bytes (slot_at (shown s q c) (sel % 4)))) (refusal_at NullEnvironment q p sel) ≫= λ d.
+    if sel % 4 == 0
+    then Ok (shown s q c)
+    else
+    (some (named s (word_at s.bytes (slot_at (shown s q c) (sel % 4))))
+    (refusal_at NullEnvironment q p sel) ≫= λ d.
     check (has right d.rights) (refusal_at EnvironmentRight q p sel) ≫= λ _.
     Ok (shown s d.table d.index))
 
@@ -89,6 +92,7 @@ source_with right s q c p sel =
     check (has right d.rights) (refusal_at MissingRight q p sel) ≫= λ _.
     Ok d
 
+-- the type control that an entry is
 abbrev pub control_by : Option Entry → Option TypeControl
 control_by (Some (Control k)) = Some k
 control_by (Some (Object o)) = None
@@ -124,6 +128,7 @@ fits first n there = nat_le (first + n) there
 abbrev pub storable : ℕ → Place → ℕ → Result (Unit {0}) Fault
 storable entry_level l q = check (nat_le entry_level l.by.level) (refusal StoringRule q)
 
+-- the level and the type of what is named
 abbrev pub level_by : Option Entry → ℕ
 level_by (Some e) = level_of e
 level_by None = 0

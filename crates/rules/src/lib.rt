@@ -1,15 +1,23 @@
-// The vocabulary of the store: entries, descriptors, faults. The definition of every call is in specs/.
+// The vocabulary of the store: entries, descriptors, faults, calls. The definition of every call is
+// in specs/.
 #![tactic(auto)]
 
-pub mod below;
-pub mod entry;
-mod extent;
-pub mod fault;
-pub mod kind;
-mod numbers;
-mod places;
-pub mod right;
-pub mod rights;
-pub mod shown;
-mod texts;
-pub mod words;
+mod below;
+mod call;
+mod descriptor;
+mod entry;
+mod fault;
+mod kind;
+mod rights;
+mod selector;
+mod shown;
+
+pub use below::Below;
+pub use call::{Answer, Call, Load, Operator};
+pub use descriptor::{Descriptor, is_valid};
+pub use entry::{Entry, Refinement, Storage, TypeControl};
+pub use fault::{Fault, Layer, Reason};
+pub use kind::Kind;
+pub use rights::{Right, Rights};
+pub use selector::{slot, slot_of};
+pub use shown::{Place, Shown};

@@ -1,2 +1,2 @@
-pub mod Calls
-pub mod Coded
+pub mod Runs
+pub mod Requests

@@ -1,7 +1,8 @@
 // Lists of calls, and what becomes of a store by them.
 #![tactic(auto)]
 
-pub mod answer;
-pub mod call;
-pub mod make;
-pub mod run;
+mod list;
+mod request;
+
+pub use list::run;
+pub use request::{Outcome, Request};

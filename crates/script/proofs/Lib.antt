@@ -1,4 +1,5 @@
 pub mod Cuts
 pub mod Digits
 pub mod Heads
+pub mod Sounds
 pub mod Turns

@@ -1,5 +1,5 @@
-pub mod Calls
+pub mod Answers
 pub mod Lines
-pub mod Replies
+pub mod Requests
+pub mod Sound
 pub mod Text
-pub mod Words

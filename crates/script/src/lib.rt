@@ -1,14 +1,9 @@
-// Scripts of calls.
+// Scripts: a list of calls, one a line, is made on a new store, and the answers are printed.
 #![tactic(auto)]
 
-pub mod answer;
-pub mod calls;
-pub mod field;
-pub mod line;
-pub mod lines;
-pub mod number;
-pub mod print;
-pub mod reply;
-pub mod whole;
-pub mod word;
-pub mod words;
+mod line;
+mod outcome;
+mod script;
+mod text;
+
+pub use script::{LONGEST, answer_script};

@@ -1,5 +1,4 @@
 -- An entry added to a table keeps a store sound.
--- Assumes nothing.
 use Rattle.std.proofs.Common.{◌≡◌, ◌≢◌, ℕ, ◌+◌, ◌*◌, ◌<◌, ◌≤◌, false, List, [], ◌∷◌, ◌++◌, length, replicate, Some, sym, refl, ap, ◌∙◌, ◌⊎◌, inl, inr, arith, length-append}
 use Rattle.std.proofs.lemmas.Bool.{cases_eq, cases_lt}
 use Rattle.std.proofs.lemmas.List.{get_or-set_other, get_or-set_same, length-set, length-replicate}
@@ -15,14 +14,15 @@ use Rattle.soundness.specs.Sound.{AreContexts, In, Inside, IsContext, NullOrLive
 use Rattle.soundness.specs.Sound.In.{here, below}
 use Rattle.soundness.specs.Sound.NullOrLive.{null}
 use Rattle.soundness.proofs.Changes.{Addable, Adds, AddsContext, AddsPlain}
-use Rattle.soundness.proofs.Words.{word_cleared, word_elsewhere}
-use Rattle.soundness.proofs.Entries.{apart_of, entry_within, slice_get_added}
-use Rattle.store.proofs.Orders.{slice_get_append, slice_get_end}
+use Rattle.bank.proofs.WordLaws.{word_cleared, word_elsewhere}
+use Rattle.rules.proofs.Entries.{entry_within, slice_get_added, slice_get_append, slice_get_end}
+use Rattle.soundness.proofs.Entries.{apart_of}
 use Rattle.soundness.proofs.Lasts.{Last, contexts_last, inside_lasts, word_lasts}
 
 -- what the stack of table t is to be when the entry e is added
 record Stacked (s u : State) (t : ℕ) (e : Entry) : Type 0 where
   grows : level s t ≤ level u t
+  few_levels : level u t ≤ 8
   no_higher : level_of e ≤ level u t
   nobody : t ≡ 0 → level u t ≡ 0
   contexts : AreContexts u t (stack u t)
@@ -90,7 +90,7 @@ module _ (s u : State) (t : ℕ) (e : Entry) (a : Adds s u t e) where
   module _ (sound : Sound s) (can : Addable s t e) where
     -- a new object takes the bytes that were cleared
     new_base : (o : Storage) → Object o ≡ e → (o.base ≡ block_start t + (table s t).claim + 4 * o.slots) × (takes e ≡ 4 * o.slots + o.bytes)
-    new_base o same = (rw (← same) at can.ready, rw (← same) refl)
+    new_base o same = ((rw (← same) at can.ready).0, rw (← same) refl)
 
     -- an old object has its slots elsewhere
     pub slot_stays : (v i : ℕ) (o : Storage) (k : ℕ) → entry s v i ≡ Some (Object o) → k < o.slots → word_at u.bytes (slot_of o k) ≡ word_at s.bytes (slot_of o k)
@@ -194,6 +194,11 @@ module _ (s u : State) (t : ℕ) (e : Entry) (a : Adds s u t e) where
                 | inl new ↦ rw new.0 (inside_added t r (rw (← new.1.1) at can.ready))
                 | inr old ↦ inside_added v r (sound.inside v i r old)
               ];
+          kinds = λ v i o h.
+              elim (entry_was v i (Object o) h) [
+                | inl new ↦ (rw (← new.1.1) at can.ready).1
+                | inr old ↦ sound.kinds v i o old
+              ];
           controls = λ v i c h.
               elim (entry_was v i (Control c) h) [
                 | inl new ↦ rw (← new.1.1) at can.ready
@@ -204,6 +209,11 @@ module _ (s u : State) (t : ℕ) (e : Entry) (a : Adds s u t e) where
               elim (entry_was v j y k) [
                 | inl new ↦ rw new.1.1 (can.rises i x (rw (← new.0) first) high)
                 | inr old ↦ sound.rising v i j x y less first old high
+              ];
+          few_levels = λ v.
+              elim (cases_eq v t) [
+                | inl c ↦ rw c st.few_levels
+                | inr ne ↦ rw (other_level v ne) (sound.few_levels v)
               ];
           no_higher = λ v i x h.
               elim (entry_was v i x h) [
@@ -250,6 +260,7 @@ added_sound s u t e sound p = stacked_sound s u t e p.adds sound p.addable stack
     stacked =
         record {
           grows = rw p.same_stack (omega arith);
+          few_levels = rw p.same_stack (sound.few_levels t);
           no_higher = rw p.same_stack p.no_higher;
           nobody = λ z. rw (p.same_stack, z) sound.nobody;
           contexts = rw p.same_stack (contexts_added s u t e p.adds t (sound.contexts t));
@@ -272,6 +283,8 @@ opened_sound s u t e sound p = stacked_sound s u t e p.adds sound p.addable stac
           is_context = rw (← same) at p.is_context;
           is_level = rw (← same) at p.next_level;
           has_slots = p.has_slots o (sym same);
+          few_slots = p.few_slots o (sym same);
+          no_bytes = p.no_bytes o (sym same);
           is_first = λ two i x less h.
               elim (entry_was s u t e p.adds t i x h) [
                 | inl new ↦ absurd (omega (arith, new.1.0))
@@ -285,6 +298,7 @@ opened_sound s u t e sound p = stacked_sound s u t e p.adds sound p.addable stac
     stacked =
         record {
           grows = rw p.opened (omega arith);
+          few_levels = rw p.opened (omega (arith, p.few_levels));
           no_higher = rw p.opened (omega (arith, p.next_level));
           nobody = λ z. absurd (p.task z);
           contexts = rw p.opened (is_context e refl, contexts_added s u t e p.adds t (sound.contexts t));

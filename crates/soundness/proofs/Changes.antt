@@ -1,5 +1,5 @@
--- What the changes of a store by a call are made of: a slot of an object, an entry added to a table.
--- Assumes nothing.
+-- What the changes of a store by a call are made of: a slot of an object, an entry added to a
+-- table.
 use Rattle.std.proofs.Common.{◌≡◌, ◌≢◌, ℕ, ◌+◌, ◌*◌, ◌<◌, ◌≤◌, false, [], ◌∷◌, ◌++◌, length, replicate, Some}
 use Rattle.bank.specs.Runs.{write_run}
 use Rattle.rules.specs.declared.entry.Entry.{Entry}
@@ -7,7 +7,7 @@ use Rattle.rules.specs.declared.entry.Entry.TheVariants.{Object, Control, Refine
 use Rattle.rules.specs.declared.entry.Storage.{Storage}
 use Rattle.rules.specs.declared.shown.Place.{Place}
 use Rattle.rules.specs.State.{State, table, stack, level, entry, block_start, kind_of, level_of, takes}
-use Rattle.soundness.specs.Sound.{Inside}
+use Rattle.soundness.specs.Sound.{Inside, IsKind, IsUserKind}
 
 -- a place is a slot of a storage object that is there
 pub record SlotIn (s : State) (l : Place) : Type 0 where
@@ -28,11 +28,11 @@ pub record Adds (s u : State) (t : ℕ) (e : Entry) : Type 0 where
   pub other_stacks : (v : ℕ) → v ≢ t → stack u v ≡ stack s v
   pub bytes : u.bytes ≡ write_run s.bytes (block_start t + (table s t).claim) (replicate (takes e) 0)
 
--- an entry that can be added to table t next: an object lies at the claim, a control is of a type that users give, a refinement
--- lies inside its object
+-- an entry that can be added to table t next: an object lies at the claim and is of a type that
+-- there is, a control is of one that users give, a refinement lies inside its object
 abbrev pub Ready : State → ℕ → Entry → Type 0
-Ready s t (Object o) = o.base ≡ block_start t + (table s t).claim + 4 * o.slots
-Ready s t (Control c) = (16 ≤ c.kind) × (c.rights ≤ 63)
+Ready s t (Object o) = (o.base ≡ block_start t + (table s t).claim + 4 * o.slots) × IsKind o.kind
+Ready s t (Control c) = IsUserKind c.kind × (c.rights ≤ 63)
 Ready s t (Refined r) = Inside s t r
 
 -- there is room for it, and no level falls
@@ -60,6 +60,9 @@ pub record AddsContext (s u : State) (t : ℕ) (e : Entry) : Type 0 where
   pub task : t ≢ 0
   pub is_context : kind_of e ≡ 1
   pub has_slots : (o : Storage) → e ≡ Object o → 4 ≤ o.slots
+  pub few_slots : (o : Storage) → e ≡ Object o → o.slots ≤ 64
+  pub no_bytes : (o : Storage) → e ≡ Object o → o.bytes ≡ 0
+  pub few_levels : level s t < 8
   pub next_level : level_of e ≡ level s t + 1
   pub loading : s.sealed ≡ false → level s t ≡ 0
   pub opened : stack u t ≡ length (table s t).entries ∷ stack s t

@@ -1,40 +1,13 @@
--- Where the entries of tables stand, and lists of entries that grow or are cut.
--- Assumes nothing.
-use Rattle.std.proofs.Common.{◌≡◌, ◌≢◌, ℕ, ◌+◌, ◌*◌, ◌<◌, ◌≤◌, List, [], ◌∷◌, ◌++◌, length, get_or, take, Some, None, sym, ◌∙◌, ◌⊎◌, inl, inr, arith, length-append}
+-- Where the entries of tables stand in a sound store.
+use Rattle.std.proofs.Common.{◌≡◌, ◌≢◌, ℕ, ◌+◌, ◌*◌, ◌<◌, ◌≤◌, List, [], ◌∷◌, length, get_or, Some, None, ◌⊎◌, inl, inr, arith}
 use Rattle.std.proofs.lemmas.Bool.{cases_lt, cases_order}
-use Rattle.std.proofs.lemmas.List.{get_or_past, length-take}
-use Rattle.std.proofs.lemmas.Option.{slice_get_within}
-use Rattle.std.specs.List.{slice_get}
+use Rattle.std.proofs.lemmas.List.{get_or_past}
 use Rattle.rules.specs.declared.entry.Entry.{Entry}
 use Rattle.rules.specs.declared.entry.Entry.TheVariants.{Object}
 use Rattle.rules.specs.declared.entry.Storage.{Storage}
 use Rattle.rules.specs.State.{State, table, stack, entry, no_table, block_start}
+use Rattle.rules.proofs.Entries.{entry_within}
 use Rattle.soundness.specs.Sound.{Sound, Takes}
-use Rattle.store.proofs.Orders.{slice_get_append, slice_get_end, slice_get_take}
-
--- what stands in a list with one entry more
-pub slice_get_added : (xs : List Entry) (x y : Entry) (i : ℕ) → slice_get (xs ++ x ∷ []) i ≡ Some y → ((i ≡ length xs) × (y ≡ x)) ⊎ ((i < length xs) × (slice_get xs i ≡ Some y))
-slice_get_added xs x y i h =
-    elim (cases_lt i (length xs)) [
-      | inl less ↦ inr (less, sym (slice_get_append xs x i less) ∙ h)
-      | inr past ↦
-          let within : i < length (xs ++ x ∷ []) = slice_get_within (xs ++ x ∷ []) i y h in
-          let last : i ≡ length xs = omega (arith, length-append xs (x ∷ [])) in
-          let found : slice_get (xs ++ x ∷ []) (length xs) ≡ Some y = rw (← last) h in
-          let same : y ≡ x = grind (arith, slice_get_end xs x) in
-          inl (last, same)
-    ]
-
--- what stands before a cut
-pub slice_get_cut : (n : ℕ) (xs : List Entry) (i : ℕ) (y : Entry) → slice_get (take n xs) i ≡ Some y → (i < n) × (slice_get xs i ≡ Some y)
-slice_get_cut n xs i y h =
-    let within = slice_get_within (take n xs) i y h in
-    let less : i < n = omega (arith, length-take n xs) in
-    (less, sym (slice_get_take n xs i less) ∙ h)
-
-pub entry_within : (s : State) (t i : ℕ) (e : Entry) → entry s t i ≡ Some e → i < length (table s t).entries
-unfolding entry
-entry_within s t i e h = slice_get_within (table s t).entries i e h
 
 -- entries stand in the first nine tables, no more than 64 in each, and a task with an open context is one of the first nine
 among_nine : {X : Type 0} (xs : List X) (i : ℕ) (d : X) → length xs ≡ 9 → get_or xs i d ≢ d → i < 9

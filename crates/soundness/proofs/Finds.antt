@@ -1,5 +1,4 @@
--- What the operands of an operator come to in a sound store.
--- Assumes nothing.
+-- What the operands of an operator are in a sound store.
 use Rattle.std.proofs.Common.{◌≡◌, ◌≢◌, ℕ, ◌+◌, ◌<◌, ◌≤◌, true, false, bit_and, bit_or, length, Some, None, refl, sym, ◌∙◌, arith}
 use Rattle.std.proofs.lemmas.Bool.{both_ways}
 use Rattle.std.proofs.lemmas.Nat.{and_le_l, or_lt}
@@ -8,15 +7,15 @@ use Rattle.rules.specs.declared.entry.Entry.{Entry}
 use Rattle.rules.specs.declared.entry.Entry.TheVariants.{Object, Control, Refined}
 use Rattle.rules.specs.declared.entry.Storage.{Storage}
 use Rattle.rules.specs.declared.entry.TypeControl.{TypeControl}
-use Rattle.rules.specs.declared.shown.Descriptor.{Descriptor}
+use Rattle.rules.specs.declared.descriptor.Descriptor.{Descriptor}
 use Rattle.rules.specs.declared.shown.Place.{Place}
 use Rattle.rules.specs.declared.shown.Shown.{Shown}
 use Rattle.rules.specs.State.{State, read, entry, held, kind_of, level_of, named, shown, slot_at, type2}
 use Rattle.rules.specs.Operators.{has_parts, with_rights}
-use Rattle.soundness.specs.Sound.{Inside, IsContext, NullOrLive, MayName, Sound, names, null, slot_of}
+use Rattle.soundness.specs.Sound.{Inside, IsContext, IsUserKind, NullOrLive, MayName, Sound, names, null, slot_of}
 use Rattle.soundness.proofs.Changes.{SlotIn}
 use Rattle.soundness.proofs.Origins.{Calls, ControlBy, Environment, Given, Selected, Source}
-use Rattle.soundness.proofs.Words.{IsSmall, named_entry, named_small, zero_names_nothing}
+use Rattle.rules.proofs.Words.{IsSmall, named_entry, named_small, zero_names_nothing}
 
 -- v shows runs of a storage object, as the entry e does; one of level 1 or more stands in table q
 pub record PartOf (s : State) (q : ℕ) (e : Entry) (v : Shown) : Type 0 where
@@ -34,7 +33,8 @@ pub data Shows (s : State) (q : ℕ) (v : Shown) : Type 0 where
   shows_nothing : v.slots ≡ 0 → v.bytes ≡ 0 → Shows s q v
   shows_part : (e : Entry) → PartOf s q e v → Shows s q v
 
--- a descriptor that task q may hold: of an entry that is there and is no context, and one of level 1 or more stands in table q
+-- a descriptor that task q may hold: of an entry that is there and is no context, and one of level
+-- 1 or more stands in table q
 pub record Holds (s : State) (q : ℕ) (d : Descriptor) : Type 0 where
   pub is_small : IsSmall d
   pub of : Entry
@@ -144,7 +144,7 @@ module _ (s : State) (g : Sound s) (q : ℕ) where
   pub source_holds : (d : Descriptor) → Source s q d → Holds s q d
   source_holds d h = held_by h.place d (selected_slot read h.place h.selected) h.is_named
 
-  pub control_is : (right : ℕ) (k : TypeControl) → ControlBy s q right k → (16 ≤ k.kind) × (k.rights ≤ 63)
+  pub control_is : (right : ℕ) (k : TypeControl) → ControlBy s q right k → IsUserKind k.kind × (k.rights ≤ 63)
   control_is right k h = g.controls h.by.table h.by.index k h.is_control
 
   pub given_holds : (d : Descriptor) → Given s q d → Holds s q d

@@ -1,23 +1,21 @@
 -- What the effect of a call must be so that it keeps a sound store sound.
--- Assumes nothing.
-use Rattle.std.proofs.Common.{◌≡◌, ◌≢◌, ℕ, ◌+◌, ◌*◌, ◌<◌, ◌≤◌, true, false, List, ◌∷◌, length, Some, Result, refl, ◌∙◌, add-zero, arith}
-use Rattle.std.specs.Result.{IfOk}
+use Rattle.std.proofs.Common.{◌≡◌, ◌≢◌, ◌⊎◌, ℕ, ◌+◌, ◌*◌, ◌<◌, ◌≤◌, true, false, List, ◌∷◌, length, Some, refl, ◌∙◌, inl, inr, add-zero, arith}
+use Rattle.rules.proofs.Words.{encode_small, names_encoded}
 use Rattle.store.proofs.Orders.{room_is}
 use Rattle.rules.specs.declared.entry.Entry.{Entry}
 use Rattle.rules.specs.declared.entry.Entry.TheVariants.{Object}
 use Rattle.rules.specs.declared.entry.Storage.{Storage}
-use Rattle.rules.specs.declared.fault.Fault.{Fault}
-use Rattle.rules.specs.declared.shown.Descriptor.{Descriptor}
+use Rattle.rules.specs.declared.descriptor.Descriptor.{Descriptor}
 use Rattle.rules.specs.declared.shown.Place.{Place}
 use Rattle.rules.specs.declared.shown.Shown.{Shown}
 use Rattle.rules.specs.State.{State, byte_at, encode, entry, kind_of, level, level_of, stack, table, takes}
 use Rattle.rules.specs.Tests.{has_room, level_by}
-use Rattle.rules.specs.Effects.{Effect, Planned, keep, put_word, write_bytes, add_entry, add_named, start_task, open_context, close_context, seal, add, enter, new_object}
-use Rattle.soundness.specs.Sound.{NullOrLive, Sound, names}
+use Rattle.rules.specs.Effects.{Effect, keep, put_word, write_bytes, add_entry, add_named, start_task, open_context, close_context, seal, add, enter, new_object}
+use Rattle.soundness.specs.Sound.{IsKind, IsUserKind, NullOrLive, Sound, names}
 use Rattle.soundness.proofs.Additions.{add_adds, enter_adds}
 use Rattle.soundness.proofs.Changes.{Addable, AddsContext, AddsPlain, Ready, SlotIn}
 use Rattle.soundness.proofs.Finds.{Holds, Shows, shows_nothing, shows_part}
-use Rattle.soundness.proofs.Words.{encode_small, names_encoded}
+use Rattle.soundness.proofs.Origins.{MayOpen}
 
 -- a word that a slot of an object of table t and level n may hold
 pub record MayPut (s : State) (t n w : ℕ) : Type 0 where
@@ -60,11 +58,16 @@ Fits s (open_context q k w) = Enters s q k × MayPut s q (level s q + 1) w
 Fits s (close_context q c l w) = Closes s q c l w
 Fits s seal = Unit {0}
 
--- the effect of a call, if it has one, fits
-abbrev pub Fitting : {X : Type 0} → State → Result (Planned X) Fault → Type 0
-Fitting s r = IfOk r (λ p. Fits s p.effect)
+-- the type of an object that a load call or an operator makes; it is not that of contexts
+abbrev pub IsMadeKind : ℕ → Type 0
+IsMadeKind k = (k ≡ 0) ⊎ IsUserKind k
 
--- the word of a descriptor that a task holds may stand in a slot whose level is high enough, in the task's own table
+pub made_kind : (k : ℕ) → IsMadeKind k → (k ≢ 1) × IsKind k
+made_kind k (inl generic) = (λ one. absurd (omega arith), inl generic)
+made_kind k (inr given) = (λ one. absurd (omega (arith, given.0)), inr (inr given))
+
+-- the word of a descriptor that a task holds may stand in a slot whose level is high enough, in the
+-- task's own table
 pub may_put : (s : State) (q t n : ℕ) (d : Descriptor) → Holds s q d → level_by (entry s d.table d.index) ≤ n → (1 ≤ n → q ≡ t) → MayPut s t n (encode d)
 may_put s q t n d h low home =
     record {
@@ -113,16 +116,19 @@ module _ (s : State) (g : Sound s) (q : ℕ) where
   in_shown v offset n (shows_part e p) inside = in_data v.owner v.object p.object p.is_there (omega (arith, p.base_is)) (omega (arith, p.base_is, p.bytes_inside))
 
   -- the next context of a task, for which there is room
-  pub enters : (k : ℕ) → 18432 ≤ length s.bytes → q < 9 → q ≢ 0 → 4 ≤ k → (s.sealed ≡ false → level s q ≡ 0) → has_room (table s q) (4 * k) ≡ true → Enters s q k
+  pub enters : (k : ℕ) → 18432 ≤ length s.bytes → q < 9 → q ≢ 0 → MayOpen s q k → (s.sealed ≡ false → level s q ≡ 0) → has_room (table s q) (4 * k) ≡ true → Enters s q k
   unfolding new_object
-  enters k large known task slots loading room =
+  enters k large known task may loading room =
       let a = enter_adds s q k g known in
       record {
         adds = a.0;
-        addable = addable s g q (new_object s q 0 k 1 (level s q + 1)) large known (λ _. omega arith) (rw add-zero room) refl;
+        addable = addable s g q (new_object s q 0 k 1 (level s q + 1)) large known (λ _. omega arith) (rw add-zero room) (refl, inr (inl refl));
         task = task;
         is_context = refl;
-        has_slots = λ o is. let same : k ≡ o.slots = cc in omega arith;
+        has_slots = λ o is. let same : k ≡ o.slots = cc in omega (arith, may.has_slots);
+        few_slots = λ o is. let same : k ≡ o.slots = cc in omega (arith, may.few_slots);
+        no_bytes = λ o is. let none : 0 ≡ o.bytes = cc in omega arith;
+        few_levels = may.few_levels;
         next_level = refl;
         loading = loading;
         opened = a.1;

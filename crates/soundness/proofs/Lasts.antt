@@ -1,5 +1,5 @@
--- What is said of the words, refinements and contexts of a table lasts while the entries that it may name stay.
--- Assumes nothing.
+-- What is said of the words, refinements and contexts of a table lasts while the entries that it
+-- may name stay.
 use Rattle.std.proofs.Common.{◌≡◌, ℕ, ◌<◌, ◌≤◌, List, [], ◌∷◌, length, Some, sym, refl, ◌∙◌, arith}
 use Rattle.rules.specs.declared.entry.Entry.{Entry}
 use Rattle.rules.specs.declared.entry.Entry.TheVariants.{Object}
@@ -7,7 +7,7 @@ use Rattle.rules.specs.declared.entry.Refinement.{Refinement}
 use Rattle.rules.specs.State.{State, entry, level_of}
 use Rattle.soundness.specs.Sound.{AreContexts, Inside, NullOrLive}
 use Rattle.soundness.specs.Sound.NullOrLive.{names, null}
-use Rattle.soundness.proofs.Words.{named_entry, names_by_entry}
+use Rattle.rules.proofs.Words.{named_entry, names_by_entry}
 
 -- the entries that an object or a refinement of table t and level n may name stay from s to u
 abbrev pub Last : State → State → ℕ → ℕ → Type 0
@@ -43,6 +43,8 @@ contexts_last s u q (c ∷ cs) last before (x, h) = (
     is_context = x.is_context;
     is_level = x.is_level;
     has_slots = x.has_slots;
+    few_slots = x.few_slots;
+    no_bytes = x.no_bytes;
     is_first = λ two i e less there. x.is_first two i e less (before i c e (Object x.object) less there x.is_there);
   },
   contexts_last s u q cs (λ a i e there low. last a i e there (omega arith)) before h,

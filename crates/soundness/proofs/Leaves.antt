@@ -1,5 +1,5 @@
--- A sound store stays sound when a context ends: the entries of the ended level end, and what stays names only what stays.
--- Assumes nothing.
+-- A sound store stays sound when a context ends: the entries of the ended level end, and what stays
+-- names only what stays.
 use Rattle.std.proofs.Common.{◌≡◌, ◌≢◌, ℕ, ◌+◌, ◌-◌, ◌*◌, ◌<◌, ◌≤◌, List, [], ◌∷◌, length, take, Some, sym, refl, ◌∙◌, inl, inr, arith}
 use Rattle.std.proofs.lemmas.Bool.{cases_eq, cases_lt}
 use Rattle.std.proofs.lemmas.List.{get_or-set_other, get_or-set_same, length-set, length-take}
@@ -10,8 +10,7 @@ use Rattle.rules.specs.declared.entry.Storage.{Storage}
 use Rattle.rules.specs.State.{State, Table, block_start, entry, kind_of, level, level_of, no_table, shown, stack, table}
 use Rattle.rules.specs.Effects.{leave, popped, with_stack, with_table}
 use Rattle.soundness.specs.Sound.{AreContexts, In, IsContext, Sound, slot_of}
-use Rattle.soundness.proofs.Entries.{slice_get_cut}
-use Rattle.store.proofs.Orders.{slice_get_take}
+use Rattle.rules.proofs.Entries.{slice_get_cut, slice_get_take}
 use Rattle.soundness.proofs.Lasts.{Last, contexts_last, inside_lasts, word_lasts}
 
 beyond : (c i : ℕ) (cs : List ℕ) → i < c → In i (c ∷ cs) → In i cs
@@ -182,8 +181,10 @@ module _ (s : State) (q c : ℕ) where
           in_order = λ t i j o p l h k. g.in_order t i j o p l (was t i (Object o) h) (was t j (Object p) k);
           apart = λ t i v j o p a h k. g.apart t i v j o p a (was t i (Object o) h) (was v j (Object p) k);
           inside = λ t i r h. inside_lasts s u t r (stays t r.level (under t i (Refined r) h)) (g.inside t i r (was t i (Refined r) h));
+          kinds = λ t i o h. g.kinds t i o (was t i (Object o) h);
           controls = λ t i k h. g.controls t i k (was t i (Control k) h);
           rising = λ t i j e f l h k. g.rising t i j e f l (was t i e h) (was t j f k);
+          few_levels = λ t. omega (arith, heights t, g.few_levels t);
           no_higher = highest;
           nobody = omega (arith, heights 0, g.nobody);
           contexts = now_open;

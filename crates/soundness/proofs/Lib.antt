@@ -11,6 +11,6 @@ pub mod Operators
 pub mod Origins
 pub mod Overwrites
 pub mod Plans
+pub mod Returns
 pub mod Starts
 pub mod Steps
-pub mod Words

@@ -1,11 +1,10 @@
 -- The effect of every operator fits the sound store that it is made in.
--- Assumes nothing.
 use Rattle.std.proofs.Common.{◌≡◌, ◌≢◌, ℕ, ◌+◌, ◌≤◌, true, List, ◌∷◌, length, Some, refl, sym, subst, ap, inl, inr, arith}
 use Rattle.std.proofs.lemmas.Bool.{both_ways, cases_lt}
 use Rattle.rules.specs.declared.entry.Entry.{Entry}
 use Rattle.rules.specs.declared.entry.Entry.TheVariants.{Object}
 use Rattle.rules.specs.declared.entry.Storage.{Storage}
-use Rattle.rules.specs.declared.shown.Descriptor.{Descriptor}
+use Rattle.rules.specs.declared.descriptor.Descriptor.{Descriptor}
 use Rattle.rules.specs.declared.shown.Place.{Place}
 use Rattle.rules.specs.declared.shown.Shown.{Shown}
 use Rattle.rules.specs.State.{State, entry, kind_of, level, level_of, shown, stack, table, takes, type1, write}
@@ -16,7 +15,7 @@ use Rattle.soundness.specs.Sound.{IsContext, Sound, null}
 use Rattle.soundness.proofs.Changes.{AddsPlain, Ready}
 use Rattle.soundness.proofs.Entries.{known_task}
 use Rattle.soundness.proofs.Finds.{Holds, PartOf, control_is, first_slots, given_holds, selected_slot, shows, shows_parts, source_holds}
-use Rattle.soundness.proofs.Fits.{Closes, Fits, MayNameNew, MayPut, adds_plain, enters, in_shown, may_put}
+use Rattle.soundness.proofs.Fits.{Closes, Fits, IsMadeKind, MayNameNew, MayPut, adds_plain, enters, in_shown, made_kind, may_put}
 use Rattle.soundness.proofs.Origins.{Calls, Comes, Destination, Makes, Source, Word}
 
 module _ (s : State) (g : Sound s) (q : ℕ) where
@@ -25,10 +24,10 @@ module _ (s : State) (g : Sound s) (q : ℕ) where
   word_fits t n w Word.nothing_named home = record { is_word = omega arith; kept = null refl }
   word_fits t n w (Word.word_of d from low) home = may_put s q t n d (given_holds s g q d from) low home
 
-  -- the type of an object that it makes is not that of contexts
-  no_context : (kind : ℕ) → Makes s q kind → kind ≢ 1
-  no_context kind Makes.generic e = absurd (omega arith)
-  no_context kind (Makes.of_type k by) e = absurd (omega (arith, (control_is s g q type1 k by).0))
+  -- the type of an object that it makes
+  made : (kind : ℕ) → Makes s q kind → IsMadeKind kind
+  made kind Makes.generic = inl refl
+  made kind (Makes.of_type k by) = inr (control_is s g q type1 k by).0
 
   -- an object that a task may show part of has no level above the task's own
   below_own : (t i : ℕ) (p : Storage) → entry s t i ≡ Some (Object p) → (1 ≤ p.level → t ≡ q) → p.level ≤ level s q
@@ -55,7 +54,8 @@ module _ (s : State) (g : Sound s) (q : ℕ) where
         at_home = p.at_home;
       }
 
-  -- a storage object or a refinement of the task's own level, for which its table has room, and the slot that is to name it
+  -- a storage object or a refinement of the task's own level, for which its table has room, and the
+  -- slot that is to name it
   own_fits : (c : ℕ) (e : Entry) (l : Place) (rights : ℕ) → Calls s q c → Destination s q l → level_of e ≡ level s q → kind_of e ≢ 1 → has_room (table s q) (takes e) ≡ true → Ready s q e → level s q ≤ l.by.level → rights ≤ 63 →
       AddsPlain s (add q e s) q e × MayNameNew s q e l rights
   own_fits c e l rights o to same other room ready low few =
@@ -95,13 +95,14 @@ module _ (s : State) (g : Sound s) (q : ℕ) where
       let h : Holds s q d = source_holds s g q d from in
       in_shown s g q (shown s d.table d.index) offset (length bs) (shows s g q d.table d.index h.of h.is_there h.at_home) inside
   comes_fits x (Comes.makes c n k kind l o to type low room) =
-      own_fits c (new_object s q n k kind (level s q)) l 63 o to refl (no_context kind type) room refl low (omega arith)
+      let is = made_kind kind (made kind type) in
+      own_fits c (new_object s q n k kind (level s q)) l 63 o to refl is.0 room (refl, is.1) low (omega arith)
   comes_fits x (Comes.refines c byte bytes slot slots d l o from parts to bytes_in slots_in low room) =
       let h : Holds s q d = source_holds s g q d from in
       own_fits c (refined (shown s d.table d.index) byte bytes slot slots (level s q)) l d.rights o to refl (λ z. absurd (omega arith)) room (part_ready byte bytes slot slots d from parts bytes_in slots_in) low
       (omega (arith, h.is_small.rights))
-  comes_fits x (Comes.enters c k w o slots from room) = (
-    enters s g q k o.large (known_task s g q c o.outer o.on_top) (is_task c o) slots (λ open_yet. absurd (both_ways s.sealed open_yet o.sealed)) room,
+  comes_fits x (Comes.enters c k w o may from room) = (
+    enters s g q k o.large (known_task s g q c o.outer o.on_top) (is_task c o) may (λ open_yet. absurd (both_ways s.sealed open_yet o.sealed)) room,
     word_fits q (level s q + 1) w from (λ up. refl),
   )
   comes_fits x (Comes.leaves c b w outer o e from) = closes c b w outer e from

@@ -1,5 +1,5 @@
--- Where the operands of an operator, and the effect of a call, come from. Nothing here rests on the soundness of a store.
--- Assumes nothing.
+-- Where the operands of an operator, and the effect of a call, come from. Nothing here rests on the
+-- soundness of a store.
 use Rattle.std.proofs.Common.{◌≡◌, ℕ, ◌+◌, ◌*◌, ◌/◌, ◌%◌, ◌==◌, ◌<◌, ◌≤◌, true, bit_and, bit_or, nat_le, nat_lt, List, [], ◌∷◌, length, Some, None, Option, refl, subst, arith}
 use Rattle.std.proofs.lemmas.Bool.{ltb-true, leb-true}
 use Rattle.std.specs.Option.{IfSome}
@@ -8,7 +8,7 @@ use Rattle.bank.specs.Words.{word_at}
 use Rattle.rules.specs.declared.entry.Entry.{Entry}
 use Rattle.rules.specs.declared.entry.Entry.TheVariants.{Object, Control, Refined}
 use Rattle.rules.specs.declared.entry.TypeControl.{TypeControl}
-use Rattle.rules.specs.declared.shown.Descriptor.{Descriptor}
+use Rattle.rules.specs.declared.descriptor.Descriptor.{Descriptor}
 use Rattle.rules.specs.declared.shown.Place.{Place}
 use Rattle.rules.specs.declared.shown.Shown.{Shown}
 use Rattle.rules.specs.State.{State, byte_at, encode, entry, has, held, level, named, read, shown, slot_at, stack, table, type1, type2, write}
@@ -24,7 +24,8 @@ pub record Calls (s : State) (q c : ℕ) : Type 0 where
   pub outer : List ℕ
   pub on_top : stack s q ≡ c ∷ outer
 
--- what a selector can show for a right: the current context, or what one of its first slots names with that right
+-- what a selector can show for a right: the current context, or what one of its first slots names
+-- with that right
 pub data Environment (s : State) (q right : ℕ) : Shown → Type 0 where
   the_context : (c : ℕ) → Calls s q c → Environment s q right (shown s q c)
   by_slot : (c k : ℕ) (d : Descriptor) → Calls s q c → k < 4 → named s (held s (record { by = shown s q c; at = k })) ≡ Some d → has right d.rights ≡ true → Environment s q right (shown s d.table d.index)
@@ -50,7 +51,8 @@ pub record ControlBy (s : State) (q right : ℕ) (k : TypeControl) : Type 0 wher
   pub has_right : has right by.rights ≡ true
   pub is_control : entry s by.table by.index ≡ Some (Control k)
 
--- a descriptor that a task may store: that of a source, with fewer rights, or with those that a type control adds
+-- a descriptor that a task may store: that of a source, with fewer rights, or with those that a
+-- type control adds
 pub data Given (s : State) (q : ℕ) : Descriptor → Type 0 where
   as_it_is : (d : Descriptor) → Source s q d → Given s q d
   with_fewer : (d : Descriptor) (mask : ℕ) → Source s q d → Given s q (with_rights (bit_and d.rights mask) d)
@@ -66,6 +68,12 @@ pub data Makes (s : State) (q : ℕ) : ℕ → Type 0 where
   generic : Makes s q 0
   of_type : (k : TypeControl) → ControlBy s q type1 k → Makes s q k.kind
 
+-- a context of k slots may be the next one of a task
+pub record MayOpen (s : State) (q k : ℕ) : Type 0 where
+  pub has_slots : 4 ≤ k
+  pub few_slots : k ≤ 64
+  pub few_levels : level s q < 8
+
 -- the effects of operators that a task calls
 pub data Comes (s : State) (q : ℕ) : Effect → Type 0 where
   keeps : Comes s q keep
@@ -75,7 +83,7 @@ pub data Comes (s : State) (q : ℕ) : Effect → Type 0 where
   refines : (c byte bytes slot slots : ℕ) (d : Descriptor) (l : Place) → Calls s q c → Source s q d → has_parts (entry s d.table d.index) ≡ true → Destination s q l →
       byte + bytes ≤ (shown s d.table d.index).bytes → slot + slots ≤ (shown s d.table d.index).slots → level s q ≤ l.by.level → has_room (table s q) 0 ≡ true →
       Comes s q (add_named q (refined (shown s d.table d.index) byte bytes slot slots (level s q)) l d.rights)
-  enters : (c k w : ℕ) → Calls s q c → 4 ≤ k → Word s q (level s q + 1) w → has_room (table s q) (4 * k) ≡ true → Comes s q (open_context q k w)
+  enters : (c k w : ℕ) → Calls s q c → MayOpen s q k → Word s q (level s q + 1) w → has_room (table s q) (4 * k) ≡ true → Comes s q (open_context q k w)
   leaves : (c b w : ℕ) (outer : List ℕ) → Calls s q c → stack s q ≡ c ∷ b ∷ outer → Word s q (shown s q b).level w → Comes s q (close_context q c (first_of (shown s q b)) w)
 
 -- what the tests of an operator find

@@ -1,5 +1,4 @@
 -- What leaves tables and stacks alone keeps a store sound: bytes of one object replaced, a seal.
--- Assumes nothing.
 use Rattle.std.proofs.Common.{◌≡◌, ◌⊎◌, ℕ, ◌+◌, ◌*◌, ◌<◌, ◌≤◌, Bool, false, List, [], length, Some, subst, inl, inr, arith}
 use Rattle.std.proofs.lemmas.Bool.{cases_order}
 use Rattle.bank.specs.Runs.{write_run}
@@ -12,9 +11,9 @@ use Rattle.rules.specs.State.{State, table, stack, level, entry, slot_at}
 use Rattle.rules.specs.Effects.{overwrite, put}
 use Rattle.soundness.specs.Sound.{Sound, NullOrLive, slot_of}
 use Rattle.soundness.proofs.Changes.{SlotIn}
+use Rattle.bank.proofs.WordLaws.{word_elsewhere, word_written}
 use Rattle.soundness.proofs.Entries.{known_table, separate_of}
 use Rattle.soundness.proofs.Lasts.{Last, contexts_last, inside_lasts, word_lasts}
-use Rattle.soundness.proofs.Words.{word_elsewhere, word_written}
 
 module _ (s : State) (h : Sound s) where
   pub is_inside_bank : (t i : ℕ) (o : Storage) → entry s t i ≡ Some (Object o) → (4 * o.slots ≤ o.base) × (o.base + o.bytes ≤ length s.bytes)
@@ -48,8 +47,10 @@ retouched_sound s b l h seal long kept =
       in_order = h.in_order;
       apart = h.apart;
       inside = λ t i r is. inside_lasts s u t r (last t r.level) (h.inside t i r is);
+      kinds = h.kinds;
       controls = h.controls;
       rising = h.rising;
+      few_levels = h.few_levels;
       no_higher = h.no_higher;
       nobody = h.nobody;
       contexts = λ q. contexts_last s u q (stack s q) (last q (level s q)) (λ i c x y less there _. there) (h.contexts q);

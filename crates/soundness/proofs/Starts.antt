@@ -1,5 +1,4 @@
 -- A store that was just made is sound, and a sound store stays sound when it is sealed.
--- Assumes nothing.
 use Rattle.std.proofs.Common.{◌≡◌, ℕ, true, List, [], Some, None, refl, arith}
 use Rattle.rules.specs.declared.entry.Entry.{Entry}
 use Rattle.rules.specs.declared.entry.Entry.TheVariants.{Object, Control, Refined}
@@ -39,8 +38,10 @@ module _ (l : List ℕ) where
         in_order = λ t i j o p l h. absent t i (Object o) h;
         apart = λ t i u j o p a h. absent t i (Object o) h;
         inside = λ t i r h. absent t i (Refined r) h;
+        kinds = λ t i o h. absent t i (Object o) h;
         controls = λ t i c h. absent t i (Control c) h;
         rising = λ t i j e f l h. absent t i e h;
+        few_levels = λ q. rw (no_level q) (omega arith);
         no_higher = λ t i e h. absent t i e h;
         nobody = no_level 0;
         contexts = λ q. rw (no_stack q) tt;

@@ -1,12 +1,12 @@
--- When a store is sound. Assumes nothing.
-use Rattle.std.specs.Prelude.{◌≡◌, ℕ, ◌+◌, ◌-◌, ◌*◌, ◌<◌, ◌≤◌, false, List, [], ◌∷◌, length, Some}
+-- When a store is sound.
+use Rattle.std.specs.Prelude.{◌≡◌, ◌⊎◌, ℕ, ◌+◌, ◌-◌, ◌*◌, ◌<◌, ◌≤◌, false, List, [], ◌∷◌, length, Some}
 use Rattle.bank.specs.Words.{word_at}
 use Rattle.rules.specs.declared.entry.Entry.{Entry}
 use Rattle.rules.specs.declared.entry.Entry.TheVariants.{Object, Control, Refined}
 use Rattle.rules.specs.declared.entry.Storage.{Storage}
 use Rattle.rules.specs.declared.entry.TypeControl.{TypeControl}
 use Rattle.rules.specs.declared.entry.Refinement.{Refinement}
-use Rattle.rules.specs.declared.shown.Descriptor.{Descriptor}
+use Rattle.rules.specs.declared.descriptor.Descriptor.{Descriptor}
 use Rattle.rules.specs.State.{State, table, stack, level, entry, named, block_start, kind_of, level_of}
 use Rattle.rules.specs.Tests.{kind_by, level_by}
 
@@ -17,6 +17,14 @@ Takes o a = (o.base ≤ a + 4 * o.slots) × (a < o.base + o.bytes)
 -- where slot k of a storage object begins
 abbrev pub slot_of : Storage → ℕ → ℕ
 slot_of o k = o.base - 4 * (k + 1)
+
+-- a type that users give
+abbrev pub IsUserKind : ℕ → Type 0
+IsUserKind k = (16 ≤ k) × (k ≤ 255)
+
+-- the type of a storage object: generic, that of contexts, or one that users give
+abbrev pub IsKind : ℕ → Type 0
+IsKind k = (k ≡ 0) ⊎ ((k ≡ 1) ⊎ IsUserKind k)
 
 -- a refinement of table t lies inside a storage object that is there
 pub record Inside (s : State) (t : ℕ) (r : Refinement) : Type 0 where
@@ -45,15 +53,19 @@ pub data NullOrLive (s : State) (t n w : ℕ) : Type 0 where
   null : w ≡ 0 → NullOrLive s t n w
   names : (d : Descriptor) → named s w ≡ Some d → MayName s t n d → NullOrLive s t n w
 
--- entry c of table q is the context of level n, with the four slots that selectors can name as environments
+-- entry c of table q is the context of level n
 pub record IsContext (s : State) (q n c : ℕ) : Type 0 where
   pub object : Storage
   pub is_there : entry s q c ≡ Some (Object object)
   pub is_context : object.kind ≡ 1
   pub is_level : object.level ≡ n
+  -- with the four slots that selectors can name as environments, at most 64, and no data bytes
   pub has_slots : 4 ≤ object.slots
+  pub few_slots : object.slots ≤ 64
+  pub no_bytes : object.bytes ≡ 0
   -- from level 2 on it is the first entry of that level or a higher one
-  pub is_first : 2 ≤ n → (i : ℕ) (e : Entry) → i < c → entry s q i ≡ Some e → level_of e < n
+  pub is_first : 2 ≤ n →
+      (i : ℕ) (e : Entry) → i < c → entry s q i ≡ Some e → level_of e < n
 
 -- a stack has the contexts of its levels, down to level 1
 abbrev pub AreContexts : State → ℕ → List ℕ → Type 0
@@ -76,25 +88,40 @@ pub record Sound (s : State) : Type 0 where
   -- entries stand over a bank that is large enough for all blocks
   pub large_bank : (t i : ℕ) (e : Entry) → entry s t i ≡ Some e → 18432 ≤ length s.bytes
   -- objects lie inside the claimed bytes of their table's block
-  pub in_claim : (t i : ℕ) (o : Storage) → entry s t i ≡ Some (Object o) → (block_start t + 4 * o.slots ≤ o.base) × (o.base + o.bytes ≤ block_start t + (table s t).claim)
+  pub in_claim : (t i : ℕ) (o : Storage) → entry s t i ≡ Some (Object o) →
+      (block_start t + 4 * o.slots ≤ o.base) ×
+      (o.base + o.bytes ≤ block_start t + (table s t).claim)
   -- those of a table lie in the order in which they were made
-  pub in_order : (t i j : ℕ) (o p : Storage) → i < j → entry s t i ≡ Some (Object o) → entry s t j ≡ Some (Object p) → o.base + o.bytes + 4 * p.slots ≤ p.base
+  pub in_order : (t i j : ℕ) (o p : Storage) → i < j →
+      entry s t i ≡ Some (Object o) → entry s t j ≡ Some (Object p) →
+      o.base + o.bytes + 4 * p.slots ≤ p.base
   -- no two objects share a byte
-  pub apart : (t i u j : ℕ) (o p : Storage) (a : ℕ) → entry s t i ≡ Some (Object o) → entry s u j ≡ Some (Object p) → Takes o a → Takes p a → (t ≡ u) × (i ≡ j)
+  pub apart : (t i u j : ℕ) (o p : Storage) (a : ℕ) →
+      entry s t i ≡ Some (Object o) → entry s u j ≡ Some (Object p) →
+      Takes o a → Takes p a → (t ≡ u) × (i ≡ j)
   -- a refinement lies inside its object
   pub inside : (t i : ℕ) (r : Refinement) → entry s t i ≡ Some (Refined r) → Inside s t r
+  -- the type of a storage object is one of those that there are
+  pub kinds : (t i : ℕ) (o : Storage) → entry s t i ≡ Some (Object o) → IsKind o.kind
   -- a type control is of a type that users give, and adds rights that there are
-  pub controls : (t i : ℕ) (c : TypeControl) → entry s t i ≡ Some (Control c) → (16 ≤ c.kind) × (c.rights ≤ 63)
+  pub controls : (t i : ℕ) (c : TypeControl) → entry s t i ≡ Some (Control c) →
+      IsUserKind c.kind × (c.rights ≤ 63)
   -- no entry of level 2 or more stands before one of a lower level
-  pub rising : (t i j : ℕ) (e f : Entry) → i < j → entry s t i ≡ Some e → entry s t j ≡ Some f → 2 ≤ level_of e → level_of e ≤ level_of f
+  pub rising : (t i j : ℕ) (e f : Entry) → i < j → entry s t i ≡ Some e → entry s t j ≡ Some f →
+      2 ≤ level_of e → level_of e ≤ level_of f
+  -- a task has at most 8 levels
+  pub few_levels : (q : ℕ) → level s q ≤ 8
   -- no entry of a table has a level above that of the table's task, and table 0 has no task
   pub no_higher : (t i : ℕ) (e : Entry) → entry s t i ≡ Some e → level_of e ≤ level s t
   pub nobody : level s 0 ≡ 0
   -- there is one context for each open level of a task, and no other
   pub contexts : (q : ℕ) → AreContexts s q (stack s q)
-  pub no_others : (t i : ℕ) (e : Entry) → entry s t i ≡ Some e → kind_of e ≡ 1 → In i (stack s t)
+  pub no_others : (t i : ℕ) (e : Entry) → entry s t i ≡ Some e → kind_of e ≡ 1 →
+      In i (stack s t)
   -- until the store is sealed, no task is above level 1, and all entries but contexts have level 0
   pub loading : s.sealed ≡ false → (t : ℕ) → level s t ≤ 1
-  pub loaded : s.sealed ≡ false → (t i : ℕ) (e : Entry) → entry s t i ≡ Some e → (kind_of e ≡ 1 → ⊥) → level_of e ≡ 0
+  pub loaded : s.sealed ≡ false →
+      (t i : ℕ) (e : Entry) → entry s t i ≡ Some e → (kind_of e ≡ 1 → ⊥) → level_of e ≡ 0
   -- each slot of an object that is there holds 0 or the word of an entry that is there
-  pub slots : (t i : ℕ) (o : Storage) → entry s t i ≡ Some (Object o) → (k : ℕ) → k < o.slots → NullOrLive s t o.level (word_at s.bytes (slot_of o k))
+  pub slots : (t i : ℕ) (o : Storage) → entry s t i ≡ Some (Object o) → (k : ℕ) → k < o.slots →
+      NullOrLive s t o.level (word_at s.bytes (slot_of o k))

@@ -1,2 +1,1 @@
-pub mod Additions
 pub mod Orders

@@ -1,19 +1,16 @@
 -- The order of tables and stacks that the operators rely on, and how it lasts.
--- Assumes nothing.
-use Rattle.std.proofs.Common.{◌≡◌, ◌≢◌, ℕ, zero, suc, ◌+◌, ◌-◌, ◌*◌, ◌<◌, ◌≤◌, Bool, true, false, cond, ◌&&◌, ltb, leb, List, [], ◌∷◌, ◌++◌, length, get_or, take, replicate, Some, None, Option, sym, refl, ◌∙◌, subst, inl, inr, arith, length-append}
+use Rattle.std.proofs.Common.{◌≡◌, ◌≢◌, ℕ, zero, suc, ◌+◌, ◌-◌, ◌*◌, ◌<◌, ◌≤◌, Bool, true, false, cond, ◌&&◌, ltb, leb, List, [], ◌∷◌, ◌++◌, length, get_or, take, replicate, Some, None, Option, sym, refl, ap, ◌∙◌, subst, inl, inr, arith, length-append}
 use Rattle.std.proofs.lemmas.Bool.{and_parts, cases_eq, lt-ltb, ltb-true, le-leb, leb-true}
-use Rattle.std.proofs.lemmas.List.{get_or-set_other, get_or-set_same, length-take-le}
+use Rattle.std.proofs.lemmas.List.{get_or-set_other, get_or-set_same, get_or_default, length-take-le, set-get_or}
 use Rattle.std.specs.List.{slice_get}
+use Rattle.bank.proofs.RunLaws.{write_run_none}
 use Rattle.std.specs.Option.{IfSome}
+use Rattle.rules.proofs.Entries.{slice_get_append, slice_get_end, slice_get_take}
 use Rattle.rules.specs.declared.entry.Entry.{Entry}
-use Rattle.rules.specs.declared.entry.Entry.TheVariants.{Object, Control, Refined}
-use Rattle.rules.specs.declared.entry.Refinement.{Refinement}
-use Rattle.rules.specs.State.{State, Table, block_start, empty, entry, no_table, part, shown, shown_by, stack, table, takes}
+use Rattle.rules.specs.State.{State, Table, block_start, empty, entry, level, no_table, stack, table, takes}
 use Rattle.rules.specs.Operators.{calling}
 use Rattle.rules.specs.Tests.{current, has_room}
-use Rattle.rules.specs.Effects.{grown, leave, popped, sealing, with_stack, with_table}
-use Rattle.tables.specs.declared.directory.Directory.{Directory}
-use Rattle.tables.specs.Live.{can_add, can_enter, can_leave, state_of}
+use Rattle.rules.specs.Effects.{add, enter, grown, new_object, next_index, overwrite, popped, with_stack, with_table}
 use Rattle.store.specs.Orderly.{IsOrderly, all_fit, are_contexts, fits_table, is_object}
 
 -- tables of entries that fit
@@ -39,22 +36,6 @@ all_fit_at t zero (x ∷ es) e h g =
     let same : x ≡ e = cc in
     rw (← same) (and_parts (fits_table t x) (all_fit t es) h).0
 all_fit_at t (suc i) (x ∷ es) e h g = all_fit_at t i es e (and_parts (fits_table t x) (all_fit t es) h).1 g
-
--- what stands before the end, and before the cut
-pub slice_get_append : (es : List Entry) (e : Entry) (c : ℕ) → c < length es → slice_get (es ++ e ∷ []) c ≡ slice_get es c
-slice_get_append [] e c h = absurd (omega arith)
-slice_get_append (x ∷ es) e zero h = refl
-slice_get_append (x ∷ es) e (suc c) h = slice_get_append es e c (omega arith)
-
-pub slice_get_end : (es : List Entry) (e : Entry) → slice_get (es ++ e ∷ []) (length es) ≡ Some e
-slice_get_end [] e = refl
-slice_get_end (x ∷ es) e = slice_get_end es e
-
-pub slice_get_take : (n : ℕ) (es : List Entry) (c : ℕ) → c < n → slice_get (take n es) c ≡ slice_get es c
-slice_get_take zero es c h = absurd (omega arith)
-slice_get_take (suc n) [] c h = refl
-slice_get_take (suc n) (x ∷ es) zero h = refl
-slice_get_take (suc n) (x ∷ es) (suc c) h = slice_get_take n es c (omega arith)
 
 -- contexts stay contexts while the entries below them stay
 pub contexts_last : (es es' : List Entry) (n m : ℕ) (cs : List ℕ) → n ≤ m → ((c : ℕ) → c < n → slice_get es' c ≡ slice_get es c) → are_contexts es n cs ≡ true → are_contexts es' m cs ≡ true
@@ -138,51 +119,36 @@ module _ (s : State) (q : ℕ) (cs : List ℕ) where
   unfolding stack with_stack
   new_stack h = get_or-set_same s.stacks q cs [] h
 
-pub nine_tables : (d : Directory) (l : List ℕ) → length (state_of d l).tables ≡ 9
-nine_tables d l = d.nine
-
-pub nine_stacks : (d : Directory) (l : List ℕ) → length (state_of d l).stacks ≡ 9
-nine_stacks d l = d.each
-
 -- an entry added, if there is room for it, which then fits its table
-pub orderly_added : (d d' : Directory) (t : ℕ) (e : Entry) → IsOrderly (state_of d []) →
-    ((l : List ℕ) → state_of d' l ≡ cond (can_add (state_of d l) t e) (with_table t (grown (table (state_of d l) t) e) (state_of d l)) (state_of d l)) →
-    (has_room (table (state_of d []) t) (takes e) ≡ true → fits_table t e ≡ true) → IsOrderly (state_of d' [])
-unfolding can_add grown
-orderly_added d d' t e o after fit = subst IsOrderly (sym (after [])) (go (can_add (state_of d []) t e) refl)
+pub orderly_grown : (s : State) (t : ℕ) (e : Entry) (r x : Table) → IsOrderly s → t < length s.tables →
+    x ≡ cond (has_room (get_or s.tables t r) (takes e)) (grown (get_or s.tables t r) e) (get_or s.tables t r) →
+    (has_room (table s t) (takes e) ≡ true → fits_table t e ≡ true) → IsOrderly (with_table t x s)
+unfolding grown table
+orderly_grown s t e r x o inside is fit = go (has_room (table s t) (takes e)) refl
   where
-    s : State
-    s = state_of d []
+    at : get_or s.tables t r ≡ table s t
+    at = get_or_default s.tables t r no_table inside
 
-    go : (b : Bool) → can_add (state_of d []) t e ≡ b → IsOrderly (cond b (with_table t (grown (table s t) e) s) s)
-    go true can =
-        let parts = and_parts (ltb t 9) (has_room (table s t) (takes e)) can in
-        let inside : t < 9 = ltb-true t 9 parts.0 in
-        orderly_table s t (grown (table s t) e) o (omega (arith, nine_tables d [])) (all_fit_append t (table s t).entries e (o.entries t) (fit parts.1)) (contexts_added (table s t).entries e (stack s t) (o.contexts t))
-    go false can = o
+    after : x ≡ cond (has_room (table s t) (takes e)) (grown (table s t) e) (table s t)
+    after = rw at at is
+
+    go : (b : Bool) → has_room (table s t) (takes e) ≡ b → IsOrderly (with_table t x s)
+    go true has =
+        let new : x ≡ grown (table s t) e = after ∙ rw has refl in
+        orderly_table s t x o inside (rw new (all_fit_append t (table s t).entries e (o.entries t) (fit has))) (rw new (contexts_added (table s t).entries e (stack s t) (o.contexts t)))
+    go false has =
+        let new : x ≡ table s t = after ∙ rw has refl in
+        orderly_table s t x o inside (rw new (o.entries t)) (rw new (o.contexts t))
 
 -- a context opened whose object was added last
-pub orderly_entered : (d d' d'' : Directory) (q i : ℕ) (e : Entry) → q < 9 → IsOrderly (state_of d []) → IsOrderly (state_of d' []) → is_object (Some e) ≡ true →
-    table (state_of d' []) q ≡ grown (table (state_of d []) q) e → stack (state_of d' []) q ≡ stack (state_of d []) q → i ≡ length (table (state_of d []) q).entries →
-    state_of d'' [] ≡ cond (can_enter (state_of d' []) q) (with_stack q (i ∷ stack (state_of d' []) q) (state_of d' [])) (state_of d' []) → IsOrderly (state_of d'' [])
+pub orderly_entered : (s u : State) (q i : ℕ) (e : Entry) (p : List ℕ) → q < length u.stacks → IsOrderly s → IsOrderly u → is_object (Some e) ≡ true →
+    table u q ≡ grown (table s q) e → stack u q ≡ stack s q → i ≡ length (table s q).entries → p ≡ i ∷ stack u q → IsOrderly (with_stack q p u)
 unfolding grown
-orderly_entered d d' d'' q i e inside o o' object grows same index after = subst IsOrderly (sym after) (go (can_enter (state_of d' []) q))
-  where
-    s : State
-    s = state_of d []
-
-    u : State
-    u = state_of d' []
-
-    opened : are_contexts (table u q).entries (length (table u q).entries) (i ∷ stack u q) ≡ true
-    opened = rw (grows, same, index) (contexts_opened (table s q).entries e (stack s q) object (o.contexts q))
-
-    go : (b : Bool) → IsOrderly (cond b (with_stack q (i ∷ stack u q) u) u)
-    go true =
-        orderly_but u (with_stack q (i ∷ stack u q) u) q o' (λ v ne. same_tables u q (i ∷ stack u q) v) (other_stacks u q (i ∷ stack u q))
-        (rw (same_tables u q (i ∷ stack u q) q) (o'.entries q))
-        (rw (same_tables u q (i ∷ stack u q) q, new_stack u q (i ∷ stack u q) (omega (arith, nine_stacks d' []))) opened)
-    go false = o'
+orderly_entered s u q i e p inside o o' object grows same index is =
+    let opened : are_contexts (table u q).entries (length (table u q).entries) p ≡ true = rw (is, grows, same, index) (contexts_opened (table s q).entries e (stack s q) object (o.contexts q)) in
+    orderly_but u (with_stack q p u) q o' (λ v ne. same_tables u q p v) (other_stacks u q p)
+    (rw (same_tables u q p q) (o'.entries q))
+    (rw (same_tables u q p q, new_stack u q p inside) opened)
 
 -- an object made at the claim fits its table
 pub made_fits : (t claim n k a b : ℕ) → claim + n ≤ 2048 → a ≡ block_start t + claim → b ≡ a + 4 * k → (leb (block_start t + 4 * k) b && leb (b - 4 * k - block_start t) 2048) ≡ true
@@ -225,63 +191,29 @@ pub calling_object : (s : State) (q : ℕ) (x : Option ℕ) → IsOrderly s → 
 calling_object s q (Some c) o e = is_calling s q c o (sym e)
 calling_object s q None o e = tt
 
--- the current context ends
-module _ (s : State) (q c : ℕ) (o : IsOrderly s) (now : current (stack s q) ≡ Some c) where
-  abbrev es : List Entry
-  es = (table s q).entries
-
-  object : is_object (slice_get es c) ≡ true
-  unfolding entry
-  object = is_opened s q c o now
-
-  pub may_leave : can_leave s q c ≡ true
-  unfolding can_leave shown entry
-  may_leave = go (slice_get es c) refl
-    where
-      go : (x : Option Entry) → slice_get es c ≡ x → leb ((shown_by s q c x).base - 4 * (shown_by s q c x).slots - block_start q) 2048 ≡ true
-      go (Some (Object p)) e = (and_parts (leb (block_start q + 4 * p.slots) p.base) (leb (p.base - 4 * p.slots - block_start q) 2048) (all_fit_at q c es (Object p) (o.entries q) e)).1
-      go (Some (Control k)) e = let wrong : false ≡ true = rw e at object in cc
-      go (Some (Refined r)) e = let wrong : false ≡ true = rw e at object in cc
-      go None e = let wrong : false ≡ true = rw e at object in cc
-
-  pub orderly_left : q < length s.tables → q < length s.stacks → IsOrderly (leave q c s)
-  unfolding leave
-  orderly_left h h' =
-      let x : Table = record { entries = take c es; claim = (shown s q c).base - 4 * (shown s q c).slots - block_start q } in
-      let u : State = with_table q x s in
-      orderly_but s (with_stack q (popped (stack s q)) u) q o (λ v ne. same_tables u q (popped (stack s q)) v ∙ other_tables s q x v ne) (λ v ne. other_stacks u q (popped (stack s q)) v ne ∙ same_stacks s q x v)
-      (rw (same_tables u q (popped (stack s q)) q, new_table s q x h) (all_fit_take q c es (o.entries q)))
-      (rw (same_tables u q (popped (stack s q)) q, new_table s q x h, new_stack u q (popped (stack s q)) (omega (arith, same_heights s q x))) (contexts_closed es (length es) c (popped (stack s q)) (omega arith) (opened s q c o now)))
-
--- the runs of what an entry shows end below 65,536, where its counts are numbers of 16 bits
-pub runs_end : (s : State) (t i : ℕ) → IsOrderly s → (shown s t i).bytes < 65536 → (shown s t i).slots < 65536 → ((shown s t i).byte + (shown s t i).bytes < 65536) × ((shown s t i).slot + (shown s t i).slots < 65536)
-unfolding shown entry
-runs_end s t i o b k = go (slice_get (table s t).entries i) refl b k
+-- the current context ends: whatever the claim is then
+pub orderly_left : (s : State) (q c n a : ℕ) (r x : Table) (ks p : List ℕ) → IsOrderly s → current (stack s q) ≡ Some c → q < length s.tables → q < length s.stacks →
+    n ≡ c → x ≡ record { entries = take n (get_or s.tables q r).entries; claim = a } → p ≡ popped (get_or s.stacks q ks) → IsOrderly (with_stack q p (with_table q x s))
+unfolding table stack
+orderly_left s q c n a r x ks p o now h h' count is pops =
+    let u : State = with_table q x s in
+    let cut : x.entries ≡ take c (table s q).entries = cut_entries in
+    let rest : p ≡ popped (stack s q) = rest_stack in
+    orderly_but s (with_stack q p u) q o (λ v ne. same_tables u q p v ∙ other_tables s q x v ne) (λ v ne. other_stacks u q p v ne ∙ same_stacks s q x v)
+    (rw (same_tables u q p q, new_table s q x h, cut) (all_fit_take q c (table s q).entries (o.entries q)))
+    (rw (same_tables u q p q, new_table s q x h, new_stack u q p (omega (arith, same_heights s q x)), cut, rest) (contexts_closed (table s q).entries (length (table s q).entries) c (popped (stack s q)) (omega arith) (opened s q c o now)))
   where
-    part_ends : (r : Refinement) (x : Option Entry) → fits_table t (Refined r) ≡ true → ((part r x).byte + (part r x).bytes < 65536) × ((part r x).slot + (part r x).slots < 65536)
-    part_ends r (Some (Object p)) f =
-        let parts = and_parts (ltb (r.byte + r.bytes) 65536) (ltb (r.slot + r.slots) 65536) f in
-        (ltb-true (r.byte + r.bytes) 65536 parts.0, ltb-true (r.slot + r.slots) 65536 parts.1)
-    part_ends r (Some (Control k)) f = (omega arith, omega arith)
-    part_ends r (Some (Refined p)) f = (omega arith, omega arith)
-    part_ends r None f = (omega arith, omega arith)
+    cut_entries : x.entries ≡ take c (table s q).entries
+    cut_entries = rw (is, count, get_or_default s.tables q r no_table h) refl
 
-    go : (x : Option Entry) → slice_get (table s t).entries i ≡ x → (shown_by s t i x).bytes < 65536 → (shown_by s t i x).slots < 65536 → ((shown_by s t i x).byte + (shown_by s t i x).bytes < 65536) × ((shown_by s t i x).slot + (shown_by s t i x).slots < 65536)
-    go (Some (Object p)) e b k = (omega arith, omega arith)
-    go (Some (Control c)) e b k = (omega arith, omega arith)
-    go (Some (Refined r)) e b k = part_ends r (entry s r.table r.index) (all_fit_at t i (table s t).entries (Refined r) (o.entries t) e)
-    go None e b k = (omega arith, omega arith)
+    rest_stack : p ≡ popped (stack s q)
+    rest_stack = rw (pops, get_or_default s.stacks q ks [] h') refl
 
 -- an entry fits its table
 pub entry_fits : (s : State) (t i : ℕ) (x : Option Entry) → IsOrderly s → x ≡ entry s t i → IfSome x (λ e. fits_table t e ≡ true)
 unfolding entry
 entry_fits s t i (Some e) o is = all_fit_at t i (table s t).entries e (o.entries t) (sym is)
 entry_fits s t i None o is = tt
-
--- what changes neither tables nor stacks
-pub orderly_sealed : (s : State) → IsOrderly s → IsOrderly (sealing s)
-unfolding sealing table stack
-orderly_sealed s o = record { entries = o.entries; contexts = o.contexts }
 
 -- a store that was just made
 pub all_default : {X : Type 0} (n i : ℕ) (x : X) → get_or (replicate n x) i x ≡ x
@@ -299,3 +231,47 @@ unfolding has_room
 room_is x n h =
     let both : (ltb (length x.entries) 64 ≡ true) × (leb (x.claim + n) 2048 ≡ true) = and_parts (ltb (length x.entries) 64) (leb (x.claim + n) 2048) h in
     (ltb-true (length x.entries) 64 both.0, leb-true (x.claim + n) 2048 both.1)
+
+-- what stands at a place of a list, by what a look-up there answers
+pub at_none : {X : Type 0} (xs : List X) (i : ℕ) (d : X) → slice_get xs i ≡ None → get_or xs i d ≡ d
+at_none [] i d h = refl
+at_none (y ∷ xs) zero d h = cc
+at_none (y ∷ xs) (suc i) d h = at_none xs i d h
+
+-- making an object of a task's table changes no stack, and its table has one entry more
+pub made_stacks : (s u : State) (b : Bool) (t : ℕ) (e : Entry) → u ≡ cond b (add t e s) s → u.stacks ≡ s.stacks
+unfolding add overwrite with_table
+made_stacks s u true t e h = ap (λ (x : State). x.stacks) h
+made_stacks s u false t e h = ap (λ (x : State). x.stacks) h
+
+pub grew : (s u : State) (q : ℕ) (e : Entry) → q < length s.tables → u ≡ add q e s → (table u q ≡ grown (table s q) e) × (stack u q ≡ stack s q)
+unfolding add overwrite with_table table stack
+grew s u q e h made = (ap (λ (w : State). table w q) made ∙ get_or-set_same s.tables q _ no_table h, ap (λ (w : State). stack w q) made)
+
+-- a context opened whose object was added last
+pub entered : (s u : State) (q k i j : ℕ) (r p : List ℕ) → u ≡ add q (new_object s q 0 k 1 (level s q + 1)) s → i ≡ next_index s q → j ≡ q → q < length u.stacks →
+    p ≡ i ∷ get_or u.stacks j r → with_stack j p u ≡ enter q k s
+unfolding enter add overwrite with_table stack
+entered s u q k i j r p made index place inside is = rw (place, new) go
+  where
+    new : p ≡ i ∷ stack u q
+    new = rw (is, place, get_or_default u.stacks q r [] inside) refl
+
+    go : with_stack q (i ∷ stack u q) u ≡ enter q k s
+    go = rw (index, made) refl
+
+-- a table to which an entry that takes no bytes was added, if there was room for it
+pub taken : (s : State) (t : ℕ) (e : Entry) (r x : Table) → t < length s.tables → takes e ≡ 0 →
+    x ≡ cond (has_room (get_or s.tables t r) (takes e)) (grown (get_or s.tables t r) e) (get_or s.tables t r) → with_table t x s ≡ cond (has_room (table s t) 0) (add t e s) s
+unfolding add overwrite table with_table
+taken s t e r x inside none is = rw after (go (has_room (table s t) 0))
+  where
+    at : get_or s.tables t r ≡ table s t
+    at = get_or_default s.tables t r no_table inside
+
+    after : x ≡ cond (has_room (table s t) 0) (grown (table s t) e) (table s t)
+    after = rw none at (is ∙ ap (λ (y : Table). cond (has_room y (takes e)) (grown y e) y) at)
+
+    go : (b : Bool) → with_table t (cond b (grown (table s t) e) (table s t)) s ≡ cond b (add t e s) s
+    go true = rw (none, write_run_none s.bytes (block_start t + (table s t).claim)) refl
+    go false = ap (λ (ts : List Table). record { tables = ts; stacks = s.stacks; sealed = s.sealed; bytes = s.bytes }) (set-get_or s.tables t no_table)

@@ -1,7 +1,9 @@
--- What the operators that read hand to their caller. Assumes nothing.
+-- What the operators that read hand to their caller.
 use Rattle.std.specs.Prelude.{ℕ, List, Some, None, Ok, Err, Option, Result}
+use Rattle.rules.specs.declared.call.Answer.{Answer}
+use Rattle.rules.specs.declared.call.Answer.TheVariants.{Absent, Seen, Looked as Shows}
 use Rattle.rules.specs.declared.fault.Fault.{Fault}
-use Rattle.rules.specs.declared.shown.Descriptor.{Descriptor}
+use Rattle.rules.specs.declared.descriptor.Descriptor.{Descriptor}
 use Rattle.rules.specs.State.{State}
 use Rattle.rules.specs.Operators.{Looked}
 
@@ -32,3 +34,11 @@ listed_by (Err f) = Err f
 
 abbrev pub listed : Result Looked Fault × State → Result (ℕ × ℕ × ℕ × ℕ) Fault × State
 listed x = (listed_by x.0, x.1)
+
+-- what see and look tell, as the answer of a call
+abbrev pub seen_answer : Option (ℕ × ℕ × ℕ) → Answer
+seen_answer (Some (t, i, r)) = Seen t i r
+seen_answer None = Absent
+
+abbrev pub looked_answer : ℕ × ℕ × ℕ × ℕ → Answer
+looked_answer (t, n, k, v) = Shows t n k v

@@ -1,4 +1,4 @@
--- The order in the tables and the stacks of a store, on which the code of the operators relies. Assumes nothing.
+-- The order in the tables and the stacks of a store, on which the code of the operators relies.
 use Rattle.std.specs.Prelude.{◌≡◌, ℕ, ◌+◌, ◌-◌, ◌*◌, Bool, true, false, ◌&&◌, List, [], ◌∷◌, length, Some, None, Option, nat_le, nat_lt}
 use Rattle.std.specs.List.{slice_get}
 use Rattle.rules.specs.declared.entry.Entry.{Entry}

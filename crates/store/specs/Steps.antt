@@ -1,7 +1,7 @@
--- What comes of room in a table, and of the last tests of a refinement. Assumes nothing.
+-- What comes of room in a table, and of the last tests of a refinement.
 use Rattle.std.specs.Prelude.{ℕ, cond, ◌&&◌, Ok, Result}
 use Rattle.rules.specs.declared.fault.Fault.{Fault}
-use Rattle.rules.specs.declared.shown.Descriptor.{Descriptor}
+use Rattle.rules.specs.declared.descriptor.Descriptor.{Descriptor}
 use Rattle.rules.specs.declared.shown.Place.{Place}
 use Rattle.rules.specs.State.{State, level, shown, table}
 use Rattle.rules.specs.Tests.{◌≫=◌, fits, has_room, in_range, room, storable}

@@ -1,23 +1,29 @@
-// How large objects and contexts are.
+// How large objects, contexts and parts are.
 ghost use Rattle.std.specs.Prelude.{◌≡◌, ◌+◌, ◌*◌, ◌≤◌, ◌&&◌, if◌then◌else◌, Some, None, nat_le};
 ghost use Rattle.rules.specs.Tests.{fits};
 
-use crate::ranges;
-use rules::below::Below;
-use rules::shown::Shown;
+use rules::{Below, Shown};
 use std::marker::Model;
+use tables::BLOCK;
+
+// One more than the most data bytes that an object has, and than the most slots.
+const BYTES: usize = BLOCK as usize + 1;
+
+const SLOTS: usize = BLOCK as usize / 4 + 1;
 
 // The data bytes and the slots of an object.
 #[derive(Clone, Copy)]
 pub(crate) struct Extent {
-    pub(crate) bytes: Below<2049>,
-    pub(crate) slots: Below<513>,
+    pub(crate) bytes: Below<BYTES>,
+    pub(crate) slots: Below<SLOTS>,
 }
 
 impl Extent {
     #[inline(always)]
     pub(crate) fn new(bytes: u32, slots: u32) -> Option<Extent>
-        ensures { result ≡ (if nat_le bytes 2048 && nat_le slots 512 then Some (record { bytes = bytes; slots = slots }) else None) }
+        ensures { result
+            ≡ (if nat_le bytes 2048 && nat_le slots 512
+            then Some (record { bytes = bytes; slots = slots }) else None) }
     {
         Some(Extent {
             bytes: Below::new(bytes)?,
@@ -31,7 +37,7 @@ impl Extent {
         requires { start ≤ 18432 }
         ensures { result ≡ start + 4 * self.now.slots }
     {
-        (start + 4 * self.slots.get() as u32) as u16
+        (start + 4 * self.slots.get()) as u16
     }
 
     // How many bytes an object takes, with its slots.
@@ -39,14 +45,14 @@ impl Extent {
     pub(crate) fn takes(&self) -> u32
         ensures { result ≡ 4 * self.now.slots + self.now.bytes }
     {
-        4 * self.slots.get() as u32 + self.bytes.get() as u32
+        4 * self.slots.get() + self.bytes.get()
     }
 }
 
-// How many slots a context has. No `Below`, since it has a least number too.
+// How many slots a context has, 4 to 64.
 #[derive(Clone, Copy)]
 pub(crate) struct ContextSlots {
-    number: u16,
+    number: u32,
 }
 
 impl Model for ContextSlots {
@@ -67,16 +73,14 @@ impl ContextSlots {
         ensures { result ≡ (if nat_le 4 number && nat_le number 64 then Some number else None) }
     {
         if 4 <= number && number <= 64 {
-            Some(ContextSlots {
-                number: number as u16,
-            })
+            Some(ContextSlots { number })
         } else {
             None
         }
     }
 
     #[inline(always)]
-    pub(crate) fn get(self) -> u16
+    pub(crate) fn get(self) -> u32
         ensures value { result ≡ self }
         ensures low { 4 ≤ result }
         ensures high { result ≤ 64 }
@@ -90,8 +94,8 @@ impl ContextSlots {
         ensures { result ≡ record { bytes = 0; slots = self } }
     {
         Extent {
-            bytes: Below::low(0),
-            slots: Below::low(self.get() as u32),
+            bytes: Below::known(0),
+            slots: Below::known(self.get()),
         }
     }
 }
@@ -107,10 +111,12 @@ pub(crate) struct Runs {
 
 impl Runs {
     // Whether both runs lie within what is shown.
-    pub(crate) fn lie_within(self, shown: Shown) -> bool
-        ensures { result ≡ (fits self.byte self.bytes shown.bytes && fits self.slot self.slots shown.slots) }
+    pub(crate) fn lie_within(self, shown: &Shown) -> bool
+        ensures { result
+            ≡ (fits self.byte self.bytes shown.now.bytes
+            && fits self.slot self.slots shown.now.slots) }
     {
-        ranges::run_fits(self.byte, self.bytes as usize, shown.bytes)
-            && ranges::run_fits(self.slot, self.slots as usize, shown.slots)
+        shown.has_bytes(self.byte, self.bytes as usize)
+            && shown.has_slots(self.slot, self.slots as usize)
     }
 }

@@ -1,22 +1,24 @@
 // A store: its directory, and the bank that holds the bytes of its objects.
-ghost use Rattle.std.specs.Prelude.{◌≡◌, ◌+◌, ◌<◌, IfSome, OnSome, Some, length, nat_le, true};
-ghost use Rattle.bank.specs.Runs.{read_run};
+ghost use Rattle.std.specs.Prelude.{◌≡◌, ◌+◌, ◌-◌, ◌*◌, ◌<◌, ◌≤◌, IfSome, OnSome, Some, length, nat_le, true};
 ghost use Rattle.rules.specs.Effects.{overwrite, put};
 ghost use Rattle.rules.specs.Operators.{calling as calling_of};
-ghost use Rattle.bank.specs.Words.{word_at, word_bytes};
-ghost use Rattle.rules.specs.State.{empty, entry as entry_at, level as level_of, shown as shown_at, stack as stack_at};
+ghost use Rattle.rules.specs.State.{block_start, empty, entry as entry_at, held as held_at, level as level_of, named as named_by, shown as shown_at, stack as stack_at, table as table_at};
 ghost use Rattle.rules.specs.Tests.{current as current_of};
+ghost use Rattle.store.specs.Callers.{Names, descriptor_of};
 ghost use Rattle.store.specs.Orderly.{fits_table, is_object};
 
+use crate::operands::Found;
 use bank::Bank;
-use rules::entry::Entry;
-use rules::shown::{Place, Shown};
+use rules::{Below, Descriptor, Entry, Place, Shown, is_valid};
+use std::fmt;
 use std::marker::Model;
-use tables::directory::Directory;
+use tables::{BLOCK, Directory, ENTRIES, TABLES};
 
-// How many bytes a bank must have for a store to take calls.
-pub const SMALLEST_BANK: u32 = 18432;
+/// How many bytes a bank must have for a store to take calls: a block for each table.
+pub const SMALLEST_BANK: usize = TABLES * BLOCK as usize;
 
+/// An object store over a bank. Its load calls come before sealing, its operators after it; each is
+/// a method, and `perform` makes any of them by its value. A call that is refused changes nothing.
 #[derive(Drop)]
 pub struct Store<B: Bank> {
     pub(crate) directory: Directory,
@@ -37,8 +39,19 @@ impl<B: Bank> Model for Store<B> {
     ghost invariant = { λ s. IsOrderly (state_of s.directory []) };
 }
 
+// The directory, and of the bank its size in bytes.
+impl<B: Bank> fmt::Debug for Store<B> {
+    fn fmt<W: fmt::Write>(&self, f: &mut fmt::Formatter<W>) -> fmt::Result {
+        f.debug_struct("Store")
+            .field("directory", &self.directory)
+            .field("bank_size", &self.bank.size())
+            .finish()
+    }
+}
+
 impl<B: Bank> Store<B> {
-    // A store with empty tables and no task over the bank as it is.
+    /// A store with empty tables and no task over the bank as it is. It takes a bank of any size;
+    /// over one of fewer than `SMALLEST_BANK` bytes each call is refused.
     pub fn new(bank: B) -> Store<B>
         ensures { result ≡ empty (B.bytes bank) }
     {
@@ -48,97 +61,143 @@ impl<B: Bank> Store<B> {
         }
     }
 
+    /// Whether loading has ended: load calls come before, operators after.
+    pub fn is_sealed(&self) -> bool
+        ensures { result ≡ self.now.sealed }
+    {
+        self.directory.sealed // true once loading has ended
+    }
+
+    /// The level of a task, which is how many of its contexts are open: 1 to 8, or 0 if no task of
+    /// that number is loaded.
+    #[tactic(auto, using(std::proofs::lemmas::Option::get_or_from_slice_get, crate::proofs::Orders::at_none), unfolding(rules::specs::State::level, rules::specs::State::stack))]
+    pub fn level(&self, task: u32) -> u8
+        ensures { result ≡ level_of self.now task }
+    {
+        self.directory
+            .stacks
+            .get(task as usize)
+            .map_or(0, |stack| stack.level())
+    }
+
     pub(crate) fn has_large_bank(&self) -> bool
         ensures { result ≡ nat_le 18432 (length self.now.bytes) }
     {
-        self.bank.size() >= SMALLEST_BANK
+        self.bank.size() as usize >= SMALLEST_BANK
     }
 
-    pub(crate) fn is_sealed(&self) -> bool
-        ensures { result ≡ self.now.sealed }
+    // The current context of a task, which is a storage object.
+    #[inline(always)]
+    #[tactic(auto, using(std::proofs::lemmas::Option::get_or_from_slice_get, crate::proofs::Orders::at_none), unfolding(rules::specs::State::stack))]
+    pub(crate) fn current(&self, task: u32) -> Option<Below<ENTRIES>>
+        ensures value { result ≡ current_of (stack_at self.now task) }
+        ensures bound { OnSome result (task < 9) }
+        ensures object { IfSome result (λ c. is_object (entry_at self.now task c) ≡ true) }
     {
-        self.directory.is_sealed()
+        self.directory.stacks.get(task as usize)?.current()
+    }
+
+    // The context from which the current one of a task was called, which is a storage object too.
+    #[inline(always)]
+    #[tactic(auto, unfolding(rules::specs::State::stack))]
+    pub(crate) fn calling(&self, task: Below<TABLES>) -> Option<Below<ENTRIES>>
+        ensures value { result ≡ calling_of (stack_at self.now task) }
+        ensures object { IfSome result (λ c. is_object (entry_at self.now task c) ≡ true) }
+    {
+        self.directory.stacks[task.index()].calling()
     }
 
     #[inline(always)]
+    #[tactic(auto, using(std::proofs::lemmas::Option::get_or_from_slice_get, crate::proofs::Orders::at_none), unfolding(rules::specs::State::entry, rules::specs::State::table))]
     pub(crate) fn entry(&self, table: u32, index: u32) -> Option<Entry>
         ensures value { result ≡ entry_at self.now table index }
         ensures bound { OnSome result ((table < 9) × (index < 64)) }
         ensures fits { IfSome result (λ e. fits_table table e ≡ true) }
     {
-        self.directory.entry(table, index)
+        self.directory.tables.get(table as usize)?.entry(index)
     }
 
     // What an entry shows.
+    #[tactic(auto, unfolding(rules::specs::State::shown))]
     pub(crate) fn shown(&self, table: u32, index: u32) -> Shown
         ensures value { result ≡ shown_at self.now table index }
         ensures runs { (result.byte + result.bytes < 65536) × (result.slot + result.slots < 65536) }
-        ensures named { (result.owner < 65536) × (result.object < 65536) }
     {
-        self.directory.shown(table, index)
+        match self.entry(table, index) {
+            Some(entry) => self.shows(table, index, entry),
+            None => Shown::nothing(),
+        }
     }
 
     // The same, given the entry, which saves a look-up.
     #[inline(always)]
     #[tactic(auto, unfolding(rules::specs::State::shown))]
-    pub(crate) fn shows(&self, table: u32, index: u32, entry: Entry) -> Shown
-        requires { entry_at self.now table index ≡ Some entry }
-        ensures { result ≡ shown_at self.now table index }
+    fn shows(&self, table: u32, index: u32, entry: Entry) -> Shown
+        requires is { entry_at self.now table index ≡ Some entry }
+        requires small { (table < 65536) × (index < 65536) }
+        requires fits { fits_table table entry ≡ true }
+        ensures value { result ≡ shown_at self.now table index }
+        ensures runs { (result.byte + result.bytes < 65536) × (result.slot + result.slots < 65536) }
     {
-        self.directory.shows(table, index, entry)
+        match entry {
+            Entry::Object(o) => Shown::whole(table as u16, index as u16, o),
+            Entry::Refined(r) => match self.entry(r.table as u32, r.index as u32) {
+                Some(Entry::Object(o)) => Shown::part(r, o),
+                _ => Shown::nothing(),
+            },
+            Entry::Control(_) => Shown::nothing(),
+        }
     }
 
-    pub(crate) fn level(&self, task: u32) -> u32
-        ensures { result ≡ level_of self.now task }
-    {
-        self.directory.level(task)
-    }
-
-    // The current context of a task, which is a storage object.
-    #[inline(always)]
-    pub(crate) fn current(&self, task: u32) -> Option<u32>
-        ensures value { result ≡ current_of (stack_at self.now task) }
-        ensures bound { OnSome result (task < 9) }
-        ensures object { IfSome result (λ c. is_object (entry_at self.now task c) ≡ true) }
-    {
-        self.directory.current(task)
-    }
-
-    // The context from which the current one of a task was called, which is a storage object too.
-    #[inline(always)]
-    pub(crate) fn calling(&self, task: u32) -> Option<u32>
-        ensures value { result ≡ calling_of (stack_at self.now task) }
-        ensures object { IfSome result (λ c. is_object (entry_at self.now task c) ≡ true) }
-    {
-        self.directory.calling(task)
-    }
-
-    // What an entry shows that is a storage object.
+    // What a context of a task shows, which is a storage object.
     #[inline(always)]
     #[tactic(auto, unfolding(rules::specs::State::shown))]
-    pub(crate) fn whole(&self, table: u32, index: u32) -> Shown
-        requires { is_object (entry_at self.now table index) ≡ true }
-        ensures { result ≡ shown_at self.now table index }
+    pub(crate) fn whole(&self, task: Below<TABLES>, context: Below<ENTRIES>) -> Shown
+        requires { is_object (entry_at self.now task context) ≡ true }
+        ensures value { result ≡ shown_at self.now task context }
+        ensures begins { block_start task + 4 * result.slots ≤ result.base }
+        ensures ends { result.base - 4 * result.slots - block_start task ≤ 2048 }
     {
-        let Some(Entry::Object(object)) = self.entry(table, index) else {
+        let Some(Entry::Object(object)) = self.entry(task.get(), context.get()) else {
             unreachable!()
         };
-        Shown::whole(table, index, object)
+        Shown::whole(task.get() as u16, context.get() as u16, object)
     }
 
-    // The word at an address.
+    // What the word in a slot names.
     #[inline(always)]
-    pub(crate) fn word_at(&self, address: u32) -> u32
-        ensures { result ≡ word_at self.now.bytes address }
+    #[tactic(auto, unfolding(rules::specs::State::held, rules::specs::State::named))]
+    pub(crate) fn held(&self, place: Place) -> Option<Found>
+        ensures value { named_by self.now (held_at self.now place) ≡ descriptor_of result }
+        ensures entry { IfSome result (λ f. Names self.now f) }
     {
-        self.bank.read_word(address)
+        let word = self.bank.read_word(place.by.slot_at(place.at));
+        if !is_valid(word) {
+            return None;
+        }
+        let descriptor = Descriptor::from(word);
+        let entry = self.entry(descriptor.table.get(), descriptor.index.get())?;
+        Some(Found { descriptor, entry })
     }
 
-    // Fills the buffer with the bytes from an address on.
-    pub(crate) fn read_run(&self, address: u32, buffer: &mut [u8])
-        ensures { buffer.new ≡ read_run self.now.bytes address (length buffer.old) }
+    // What a descriptor shows.
+    #[inline(always)]
+    pub(crate) fn shown_of(&self, found: &Found) -> Shown
+        requires { Names self.now found.now }
+        ensures { result ≡ shown_at self.now found.now.descriptor.table found.now.descriptor.index }
     {
-        self.bank.read_run(address, buffer);
+        let named = found.descriptor;
+        self.shows(named.table.get(), named.index.get(), found.entry)
+    }
+
+    // Where the next bytes of a table's block begin.
+    #[inline(always)]
+    #[tactic(auto, unfolding(rules::specs::State::table))]
+    pub(crate) fn start(&self, table: Below<TABLES>) -> u32
+        ensures value { result ≡ block_start table + (table_at self.now table).claim }
+        ensures bound { result ≤ 18432 }
+    {
+        BLOCK * table.get() + self.directory.tables[table.index()].claim()
     }
 
     // Replaces the bytes from an address on.
@@ -149,21 +208,12 @@ impl<B: Bank> Store<B> {
         self.bank.write_run(address, source);
     }
 
-    // Replaces the word at an address.
-    #[inline(always)]
-    #[tactic(auto, unfolding(rules::specs::Effects::overwrite))]
-    pub(crate) fn write_word(&mut self, address: u32, word: u32)
-        ensures { self.new ≡ overwrite address (word_bytes word) self.old }
-    {
-        self.bank.write_word(address, word);
-    }
-
     // Puts a word into a slot.
     #[inline(always)]
-    #[tactic(auto, unfolding(rules::specs::Effects::put))]
+    #[tactic(auto, unfolding(rules::specs::Effects::put, rules::specs::Effects::overwrite))]
     pub(crate) fn put(&mut self, place: Place, word: u32)
         ensures { self.new ≡ put place word self.old }
     {
-        self.write_word(place.by.slot_at(place.at), word);
+        self.bank.write_word(place.by.slot_at(place.at), word);
     }
 }

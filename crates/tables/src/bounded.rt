@@ -2,10 +2,11 @@
 ghost use Rattle.std.specs.Prelude.{◌≡◌, ◌<◌, ◌≤◌, List, [], ◌∷◌, ◌++◌, length, reverse, take, OnSome};
 ghost use Rattle.std.specs.List.{slice_get};
 
+use std::fmt;
 use std::marker::Model;
 
-// A list of at most N items: the first `count` of an array. A store allocates nothing, so that a Vec is out. The items past the
-// end are whatever was there, so that cutting the list costs nothing, where an ArrayVec writes blanks.
+// A list of at most N items: the first `count` of an array. The items past the end are whatever
+// was there, so that cutting the list costs nothing.
 #[derive(Drop)]
 pub struct BoundedList<T: Copy, const N: usize> {
     items: [T; N],
@@ -75,5 +76,12 @@ impl<T: Copy, const N: usize> BoundedList<T, N> {
         ensures { self.new ≡ take count self.old }
     {
         self.count = self.count.min(count);
+    }
+}
+
+// The items, and not what stands in the places past the end.
+impl<T: Copy + fmt::Debug, const N: usize> fmt::Debug for BoundedList<T, N> {
+    fn fmt<W: fmt::Write>(&self, f: &mut fmt::Formatter<W>) -> fmt::Result {
+        f.debug_list().slice(&self.items[..self.count]).finish()
     }
 }

@@ -1,7 +1,11 @@
 // The tables of a store, the open contexts of its tasks, and its seal.
 #![tactic(auto)]
 
-pub mod bounded;
-pub mod directory;
-pub mod stack;
-pub mod table;
+mod bounded;
+mod directory;
+mod stack;
+mod table;
+
+pub use directory::{Directory, TABLES};
+pub use stack::{LEVELS, Stack};
+pub use table::{BLOCK, ENTRIES, Table};

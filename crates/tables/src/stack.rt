@@ -1,19 +1,23 @@
 // The open contexts of a task.
-ghost use Rattle.std.specs.Prelude.{◌≡◌, ◌<◌, [], ◌∷◌, length, if◌then◌else◌, nat_lt};
+ghost use Rattle.std.specs.Prelude.{◌≡◌, ◌<◌, ◌≤◌, [], ◌∷◌, length};
 ghost use Rattle.rules.specs.Effects.{popped};
 ghost use Rattle.rules.specs.Operators.{calling as calling_of};
 ghost use Rattle.rules.specs.Tests.{current as current_of};
 
 use crate::bounded::BoundedList;
+use crate::table::ENTRIES;
+use rules::Below;
 use std::marker::Model;
 
-// How many levels a task has.
+/// How many levels a task has: its first context is of level 1, the last that it can open of level
+/// 8.
 pub const LEVELS: usize = 8;
 
-// The indices of the contexts in the task's table, from level 1 on. Clauses see the current one first.
-#[derive(Drop)]
+/// The indices of a task's open contexts in its table, from level 1 on. Clauses see the current one
+/// first.
+#[derive(Debug, Drop)]
 pub struct Stack {
-    contexts: BoundedList<u32, LEVELS>,
+    contexts: BoundedList<Below<ENTRIES>, LEVELS>,
 }
 
 impl Model for Stack {
@@ -25,50 +29,52 @@ impl Model for Stack {
 }
 
 impl Stack {
+    // A stack with no context.
     pub(crate) fn new() -> Stack
         ensures { result ≡ [] }
     {
         Stack {
-            contexts: BoundedList::new(0),
+            contexts: BoundedList::new(Below::known(0)),
         }
     }
 
+    /// How many contexts are open, 0 to 8: the task's level.
     #[inline(always)]
-    pub(crate) fn level(&self) -> u32
-        ensures { result ≡ length self.now }
+    pub fn level(&self) -> u8
+        ensures value { result ≡ length self.now }
+        ensures within { result ≤ 8 }
     {
-        self.contexts.len() as u32
+        self.contexts.len() as u8
     }
 
-    // Opens a context, if there is a level for it.
+    /// The context that was opened last.
     #[inline(always)]
-    pub(crate) fn push(&mut self, index: u32)
-        ensures { self.new ≡ (if nat_lt (length self.old) 8 then index ∷ self.old else self.old) }
-    {
-        if self.contexts.len() < LEVELS {
-            self.contexts.push(index);
-        }
-    }
-
-    // The context that was opened last.
-    #[inline(always)]
-    pub(crate) fn current(&self) -> Option<u32>
+    pub fn current(&self) -> Option<Below<ENTRIES>>
         ensures { result ≡ current_of self.now }
     {
         self.contexts.from_end(0)
     }
 
-    // The context from which the current one was called.
+    /// The context from which the current one was called.
     #[inline(always)]
-    pub(crate) fn calling(&self) -> Option<u32>
+    pub fn calling(&self) -> Option<Below<ENTRIES>>
         ensures { result ≡ calling_of self.now }
     {
         self.contexts.from_end(1)
     }
 
-    // Closes the current context, if one is open.
+    /// Opens a context, for which there must be a level.
     #[inline(always)]
-    pub(crate) fn pop(&mut self)
+    pub fn push(&mut self, index: Below<ENTRIES>)
+        requires { length self.old < 8 }
+        ensures { self.new ≡ index ∷ self.old }
+    {
+        self.contexts.push(index);
+    }
+
+    /// Closes the current context, if one is open.
+    #[inline(always)]
+    pub fn pop(&mut self)
         ensures { self.new ≡ popped self.old }
     {
         let kept = self.contexts.len().saturating_sub(1);

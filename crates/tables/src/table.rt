@@ -6,16 +6,19 @@ ghost use Rattle.rules.specs.State.{no_table, takes};
 ghost use Rattle.rules.specs.Tests.{has_room};
 
 use crate::bounded::BoundedList;
-use rules::below::Below;
-use rules::entry::{Entry, TypeControl};
-use rules::kind::Kind;
+use rules::{Below, Entry, Kind, TypeControl};
 use std::marker::Model;
 
-pub(crate) const BLOCK: u32 = 2048;
+/// How many bytes a table's block has: the block of table t begins at the address BLOCK * t.
+pub const BLOCK: u32 = 2048;
 
-#[derive(Drop)]
+/// How many entries a table has at most.
+pub const ENTRIES: usize = 64;
+
+/// A table: its live entries in order of making, and how many bytes of its block are taken.
+#[derive(Debug, Drop)]
 pub struct Table {
-    entries: BoundedList<Entry, 64>,
+    entries: BoundedList<Entry, ENTRIES>,
     claim: u32,
 }
 
@@ -31,6 +34,7 @@ impl Model for Table {
 }
 
 impl Table {
+    // A table with no entry.
     pub(crate) fn new() -> Table
         ensures { result ≡ no_table }
     {
@@ -44,29 +48,33 @@ impl Table {
         }
     }
 
+    /// The entry of an index, if there is one.
     #[inline(always)]
-    pub(crate) fn entry(&self, index: u32) -> Option<Entry>
+    pub fn entry(&self, index: u32) -> Option<Entry>
         ensures value { result ≡ slice_get self.now.entries index }
         ensures bound { OnSome result (index < 64) }
     {
         self.entries.get(index as usize)
     }
 
-    // How many bytes of the block are taken.
+    /// How many bytes of the block are taken, 0 to 2,048.
     #[inline(always)]
-    pub(crate) fn claim(&self) -> u32
+    pub fn claim(&self) -> u32
         ensures value { result ≡ self.now.claim }
         ensures within { result ≤ 2048 }
     {
-        self.claim
+        self.claim // of the block
     }
 
-    // Adds an entry and answers its index, if there is room for it.
+    /// Adds an entry and answers its index, if there is room for it: fewer than 64 entries, and as
+    /// many bytes of the block left as it takes. Otherwise nothing changes.
     #[inline(always)]
     #[tactic(auto, unfolding(rules::specs::Effects::grown, rules::specs::Tests::has_room))]
-    pub(crate) fn add(&mut self, entry: Entry) -> Option<Below<64>>
-        ensures value { result ≡ (if has_room self.old (takes entry) then Some (length self.old.entries) else None) }
-        ensures after { self.new ≡ (if has_room self.old (takes entry) then grown self.old entry else self.old) }
+    pub fn add(&mut self, entry: Entry) -> Option<Below<ENTRIES>>
+        ensures value { result
+            ≡ (if has_room self.old (takes entry) then Some (length self.old.entries) else None) }
+        ensures after { self.new
+            ≡ (if has_room self.old (takes entry) then grown self.old entry else self.old) }
     {
         let bytes = entry.takes();
         if bytes > BLOCK - self.claim {
@@ -78,9 +86,9 @@ impl Table {
         Some(index)
     }
 
-    // Keeps the first entries, and sets how many bytes are taken.
+    /// Keeps the first entries, so many, and sets how many bytes are taken, at most 2,048.
     #[inline(always)]
-    pub(crate) fn cut(&mut self, count: usize, claim: u32)
+    pub fn cut(&mut self, count: usize, claim: u32)
         requires { claim ≤ 2048 }
         ensures { self.new ≡ record { entries = take count self.old.entries; claim = claim } }
     {

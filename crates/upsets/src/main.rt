@@ -1,8 +1,10 @@
-// A magnetometer record in coded and in plain memory: every bit of that memory is turned in turn, and the record read back.
+// A magnetometer record in coded and in plain memory: each bit of that memory is flipped in turn,
+// and the record read back.
 #![tactic(auto)]
 
-use magnetometer::Record;
-use magnetometer::tally::Tally;
+ghost use Rattle.std.specs.Prelude.{◌<◌};
+
+use magnetometer::{Record, Tally, flip_in_byte, flip_in_word};
 use std::io;
 
 const UNITS: usize = 6;
@@ -41,7 +43,7 @@ fn stored(rt: &HostRuntime, record: Record) -> io::Result<()> {
     Ok(())
 }
 
-// Turns each bit of each unit, prints what is read then, and keeps the tallies.
+// Flips each bit of each unit, prints what is read then, and keeps the tallies.
 fn upsets(
     rt: &HostRuntime,
     record: Record,
@@ -49,17 +51,17 @@ fn upsets(
     plain: &mut Tally,
 ) -> io::Result<()> {
     println!(rt;
-        "\nOne bit is turned at a time, and the record is read back (= what was stored, * something else):\n"
+        "\nOne bit is flipped at a time, and the record is read back (= what was stored, * something else):\n"
     )?;
     println!(rt;
-        "  turned         read from coded memory           read from plain memory\n  address  bit          x      y      z  length          x      y      z  length"
+        "  flipped        read from coded memory           read from plain memory\n  address  bit          x      y      z  length          x      y      z  length"
     )?;
     for address in 0..UNITS {
         for bit in 0..u16::BITS {
             print!(rt; "  {address:7}  {bit:3}")?;
-            show(rt, record, record.after_coded_upset(address, bit), coded)?;
+            show(rt, record, from_words(record, address, bit), coded)?;
             if bit < u8::BITS {
-                show(rt, record, record.after_plain_upset(address, bit), plain)?;
+                show(rt, record, from_bytes(record, address, bit), plain)?;
             } else {
                 print!(rt; "     no such bit")?;
             }
@@ -67,6 +69,32 @@ fn upsets(
         }
     }
     Ok(())
+}
+
+// The record as it is read from coded memory after one bit of one word has flipped: proved to be
+// the one that was stored.
+fn from_words(record: Record, word: usize, bit: u32) -> Record
+    requires word { word < UNITS }
+    requires bit { bit < 16 }
+{
+    let mut words = [0u16; UNITS];
+    record.store(&mut words, 0);
+    flip_in_word(&mut words, word, bit);
+    let read = Record::read_coded(&mut words, 0);
+    let survives = read == record;
+    prove!(survives);
+    read
+}
+
+// The record as it is read from plain memory after one bit of one byte has flipped.
+fn from_bytes(record: Record, byte: usize, bit: u32) -> Record
+    requires byte { byte < UNITS }
+    requires bit { bit < 8 }
+{
+    let mut bytes = [0u8; UNITS];
+    record.store(&mut bytes, 0);
+    flip_in_byte(&mut bytes, byte, bit);
+    Record::read_plain(&mut bytes, 0)
 }
 
 // Prints what was read, with a mark if it is not what was stored.

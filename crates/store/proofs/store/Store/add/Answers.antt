@@ -1,21 +1,18 @@
-use Rattle.std.proofs.Common.{ℕ, List, arith}
-use Rattle.std.proofs.lemmas.Grind.{common_steps}
-use Rattle.tables.specs.Live.{can_add}
-use Rattle.store.proofs.Additions.{taken}
-use Rattle.store.proofs.Orders.{orderly_added}
+use Rattle.std.proofs.Common.{[], arith}
+use Rattle.rules.specs.Effects.{with_table}
+use Rattle.rules.specs.State.{State}
+use Rattle.tables.specs.Live.{state_of}
+use Rattle.store.proofs.Orders.{orderly_grown, taken}
 use Rattle.store.proofs.store.Store.add.Goals as goal
 
-pub returns-clause-value : goal.returns-clause-value
-unfolding can_add
-returns-clause-value g c =
-    let l : List ℕ = g.B.Bank.bytes c.self.inside.bank in
-    let value = c.add.ensures.value l in
-    grind (arith, common_steps)
+pub invariant_of-self : goal.invariant_of-self
+unfolding with_table
+invariant_of-self g c =
+    let s : State = state_of c.self.inside.directory [] in
+    orderly_grown s c.index.result c.args.entry c.index-tables-index.result c.add.new.self c.self.invariant (omega (arith, c.self.inside.directory.nine)) c.add.ensures.after (λ room. rw c.index.ensures.value c.requires.fits)
 
 pub returns-clause-after : goal.returns-clause-after
+unfolding with_table
 returns-clause-after g c =
-    let l : List ℕ = g.B.Bank.bytes c.self.inside.bank in
-    rw (← c.self.view_is, ← c.get.ensures.value) (taken c.self.inside.directory c.add.new.self l c.get.result c.args.entry (omega arith) c.requires.empty (c.add.ensures.after l))
-
-pub invariant_of-self : goal.invariant_of-self
-invariant_of-self g c = orderly_added c.self.inside.directory c.add.new.self c.get.result c.args.entry c.self.invariant c.add.ensures.after (λ room. rw c.get.ensures.value c.requires.fits)
+    let s : State = state_of c.self.inside.directory (g.B.Bank.bytes c.self.inside.bank) in
+    rw (← c.self.view_is, ← c.index.ensures.value) (taken s c.index.result c.args.entry c.index-tables-index.result c.add.new.self (omega (arith, c.self.inside.directory.nine)) c.requires.empty c.add.ensures.after)
