@@ -6,6 +6,7 @@ use bank::{LentBank, Unit};
 use rules::Fault;
 use std::{env, io};
 use store::SMALLEST_BANK;
+use two_chips::TwoChipBank;
 
 mod names;
 mod rounds;
@@ -34,6 +35,7 @@ fn main(rt: HostRuntime) -> io::Result<()> {
     match bank {
         BankKind::Plain => run::<u8>(&rt, work, count, numbers),
         BankKind::Coded => run::<u16>(&rt, work, count, numbers),
+        BankKind::TwoChip => run_on_chips(&rt, work, count, numbers),
     }
 }
 
@@ -46,9 +48,24 @@ fn run<U: Unit>(rt: &HostRuntime, work: Work, count: u32, numbers: Numbers) -> i
     )
 }
 
+// The same over a bank on two chips.
+fn run_on_chips(rt: &HostRuntime, work: Work, count: u32, numbers: Numbers) -> io::Result<()> {
+    let mut first = vec![in rt.alloc(); 0u8; SMALLEST_BANK / 2]?;
+    let mut second = vec![in rt.alloc(); 0u8; SMALLEST_BANK / 2]?;
+    print(
+        rt,
+        sum(
+            TwoChipBank::new(first.as_mut_slice(), second.as_mut_slice()),
+            work,
+            count,
+            numbers,
+        ),
+    )
+}
+
 fn usage(rt: &HostRuntime) -> io::Result<()> {
     println!(rt;
-        "bench BANK WORK COUNT: plain or coded; copy copy_env null restrict amplify read1 read64 read1024 write1 write64 write1024 see look call_return call_create_return call_typed_return call_refine_return fault"
+        "bench BANK WORK COUNT: plain, coded or two_chips; copy copy_env null restrict amplify read1 read64 read1024 write1 write64 write1024 see look call_return call_create_return call_typed_return call_refine_return fault"
     )
 }
 

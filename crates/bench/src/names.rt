@@ -5,6 +5,7 @@ use std::str::FromStr;
 pub(crate) enum BankKind {
     Plain,
     Coded,
+    TwoChip,
 }
 
 #[derive(Clone, Copy, Debug, PartialEq, Eq)]
@@ -37,6 +38,7 @@ impl FromStr for BankKind {
         match name {
             "plain" => Ok(BankKind::Plain),
             "coded" => Ok(BankKind::Coded),
+            "two_chips" => Ok(BankKind::TwoChip),
             _ => Err(UnknownName),
         }
     }

@@ -1,0 +1,4 @@
+pub mod Lanes
+pub mod ChipLaws
+pub mod ChipRuns
+pub mod PairLaws

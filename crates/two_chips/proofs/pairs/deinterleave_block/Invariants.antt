@@ -1,0 +1,7 @@
+use Rattle.std.proofs.Common.{◌*◌}
+use Rattle.two_chips.specs.Pairs.{Interleaved}
+use Rattle.two_chips.proofs.pairs.deinterleave_block.Given as goal
+
+-- the pairs of the vectors passed are moved
+abbrev pub invariant-loop-k : goal.invariant-loop-k
+invariant-loop-k l = Interleaved (8 * l.k) l.lead l.follow l.run
