@@ -1,6 +1,6 @@
 -- The order of tables and stacks that the operators rely on, and how it lasts.
-use Rattle.std.proofs.Common.{◌≡◌, ◌≢◌, ℕ, zero, suc, ◌+◌, ◌-◌, ◌*◌, ◌<◌, ◌≤◌, Bool, true, false, cond, ◌&&◌, ltb, leb, List, [], ◌∷◌, ◌++◌, length, get_or, take, replicate, Some, None, Option, sym, refl, ap, ◌∙◌, subst, inl, inr, arith, length-append}
-use Rattle.std.proofs.lemmas.Bool.{and_parts, cases_eq, lt-ltb, ltb-true, le-leb, leb-true}
+use Rattle.std.proofs.Common.{◌≡◌, ◌≢◌, ℕ, zero, suc, ◌+◌, ◌-◌, ◌*◌, ◌<◌, ◌≤◌, Bool, true, false, cond, ◌&&◌, ltb, leb, List, [], ◌∷◌, ◌++◌, length, get_or, take, replicate, Some, None, Option, sym, refl, ap, ◌∙◌, subst, inl, inr, arith, length-append, length-take}
+use Rattle.std.proofs.lemmas.Bool.{and_parts, cases_eq, cases_lt, lt-ltb, ltb-true, le-leb, leb-true}
 use Rattle.std.proofs.lemmas.List.{get_or-set_other, get_or-set_same, get_or_default, length-take-le, set-get_or}
 use Rattle.std.specs.List.{slice_get}
 use Rattle.bank.proofs.RunLaws.{write_run_none}
@@ -11,7 +11,7 @@ use Rattle.rules.specs.State.{State, Table, block_start, empty, entry, level, no
 use Rattle.rules.specs.Operators.{calling}
 use Rattle.rules.specs.Tests.{current, has_room}
 use Rattle.rules.specs.Effects.{add, enter, grown, new_object, next_index, overwrite, popped, with_stack, with_table}
-use Rattle.store.specs.Orderly.{IsOrderly, all_fit, are_contexts, fits_table, is_object}
+use Rattle.store.specs.Orderly.{InTables, IsOrderly, all_fit, are_contexts, fits_table, is_object}
 
 -- tables of entries that fit
 pub all_fit_append : (t : ℕ) (es : List Entry) (e : Entry) → all_fit t es ≡ true → fits_table t e ≡ true → all_fit t (es ++ e ∷ []) ≡ true
@@ -68,9 +68,14 @@ contexts_closed es n c cs le h =
 
 -- a state of which one table and its task's stack have changed
 pub orderly_but : (s s' : State) (t : ℕ) → IsOrderly s → ((u : ℕ) → u ≢ t → table s' u ≡ table s u) → ((u : ℕ) → u ≢ t → stack s' u ≡ stack s u) →
-    all_fit t (table s' t).entries ≡ true → are_contexts (table s' t).entries (length (table s' t).entries) (stack s' t) ≡ true → IsOrderly s'
-orderly_but s s' t o tables stacks fit opened =
+    length (table s' t).entries ≤ 64 → all_fit t (table s' t).entries ≡ true → are_contexts (table s' t).entries (length (table s' t).entries) (stack s' t) ≡ true → IsOrderly s'
+orderly_but s s' t o tables stacks few fit opened =
     record {
+      few = λ u.
+          elim (cases_eq u t) [
+            | inl e ↦ subst (λ (v : ℕ). length (table s' v).entries ≤ 64) (sym e) few
+            | inr ne ↦ subst (λ (x : Table). length x.entries ≤ 64) (sym (tables u ne)) (o.few u)
+          ];
       entries = λ u.
           elim (cases_eq u t) [
             | inl e ↦ subst (λ (v : ℕ). all_fit v (table s' v).entries ≡ true) (sym e) fit
@@ -101,9 +106,9 @@ module _ (s : State) (t : ℕ) (x : Table) where
   unfolding with_table
   same_heights = refl
 
-  orderly_table : IsOrderly s → t < length s.tables → all_fit t x.entries ≡ true → are_contexts x.entries (length x.entries) (stack s t) ≡ true → IsOrderly (with_table t x s)
-  orderly_table o h fit contexts =
-      orderly_but s (with_table t x s) t o other_tables (λ u ne. same_stacks u) (rw (new_table h) fit) (rw (new_table h, same_stacks t) contexts)
+  orderly_table : IsOrderly s → t < length s.tables → length x.entries ≤ 64 → all_fit t x.entries ≡ true → are_contexts x.entries (length x.entries) (stack s t) ≡ true → IsOrderly (with_table t x s)
+  orderly_table o h few fit contexts =
+      orderly_but s (with_table t x s) t o other_tables (λ u ne. same_stacks u) (rw (new_table h) few) (rw (new_table h) fit) (rw (new_table h, same_stacks t) contexts)
 
 -- one stack replaced
 module _ (s : State) (q : ℕ) (cs : List ℕ) where
@@ -118,6 +123,13 @@ module _ (s : State) (q : ℕ) (cs : List ℕ) where
   new_stack : q < length s.stacks → stack (with_stack q cs s) q ≡ cs
   unfolding stack with_stack
   new_stack h = get_or-set_same s.stacks q cs [] h
+
+-- room in a table, as numbers
+pub room_is : (x : Table) (n : ℕ) → has_room x n ≡ true → (length x.entries < 64) × (x.claim + n ≤ 2048)
+unfolding has_room
+room_is x n h =
+    let both : (ltb (length x.entries) 64 ≡ true) × (leb (x.claim + n) 2048 ≡ true) = and_parts (ltb (length x.entries) 64) (leb (x.claim + n) 2048) h in
+    (ltb-true (length x.entries) 64 both.0, leb-true (x.claim + n) 2048 both.1)
 
 -- an entry added, if there is room for it, which then fits its table
 pub orderly_grown : (s : State) (t : ℕ) (e : Entry) (r x : Table) → IsOrderly s → t < length s.tables →
@@ -135,10 +147,11 @@ orderly_grown s t e r x o inside is fit = go (has_room (table s t) (takes e)) re
     go : (b : Bool) → has_room (table s t) (takes e) ≡ b → IsOrderly (with_table t x s)
     go true has =
         let new : x ≡ grown (table s t) e = after ∙ rw has refl in
-        orderly_table s t x o inside (rw new (all_fit_append t (table s t).entries e (o.entries t) (fit has))) (rw new (contexts_added (table s t).entries e (stack s t) (o.contexts t)))
+        let room : length (table s t).entries < 64 = (room_is (table s t) (takes e) has).0 in
+        orderly_table s t x o inside (rw new (omega (arith, length-append (table s t).entries (e ∷ []), room))) (rw new (all_fit_append t (table s t).entries e (o.entries t) (fit has))) (rw new (contexts_added (table s t).entries e (stack s t) (o.contexts t)))
     go false has =
         let new : x ≡ table s t = after ∙ rw has refl in
-        orderly_table s t x o inside (rw new (o.entries t)) (rw new (o.contexts t))
+        orderly_table s t x o inside (rw new (o.few t)) (rw new (o.entries t)) (rw new (o.contexts t))
 
 -- a context opened whose object was added last
 pub orderly_entered : (s u : State) (q i : ℕ) (e : Entry) (p : List ℕ) → q < length u.stacks → IsOrderly s → IsOrderly u → is_object (Some e) ≡ true →
@@ -147,6 +160,7 @@ unfolding grown
 orderly_entered s u q i e p inside o o' object grows same index is =
     let opened : are_contexts (table u q).entries (length (table u q).entries) p ≡ true = rw (is, grows, same, index) (contexts_opened (table s q).entries e (stack s q) object (o.contexts q)) in
     orderly_but u (with_stack q p u) q o' (λ v ne. same_tables u q p v) (other_stacks u q p)
+    (rw (same_tables u q p q) (o'.few q))
     (rw (same_tables u q p q) (o'.entries q))
     (rw (same_tables u q p q, new_stack u q p inside) opened)
 
@@ -200,6 +214,7 @@ orderly_left s q c n a r x ks p o now h h' count is pops =
     let cut : x.entries ≡ take c (table s q).entries = cut_entries in
     let rest : p ≡ popped (stack s q) = rest_stack in
     orderly_but s (with_stack q p u) q o (λ v ne. same_tables u q p v ∙ other_tables s q x v ne) (λ v ne. other_stacks u q p v ne ∙ same_stacks s q x v)
+    (rw (same_tables u q p q, new_table s q x h, cut) (omega (arith, length-take c (table s q).entries, o.few q)))
     (rw (same_tables u q p q, new_table s q x h, cut) (all_fit_take q c (table s q).entries (o.entries q)))
     (rw (same_tables u q p q, new_table s q x h, new_stack u q p (omega (arith, same_heights s q x)), cut, rest) (contexts_closed (table s q).entries (length (table s q).entries) c (popped (stack s q)) (omega arith) (opened s q c o now)))
   where
@@ -215,6 +230,59 @@ unfolding entry
 entry_fits s t i (Some e) o is = all_fit_at t i (table s t).entries e (o.entries t) (sym is)
 entry_fits s t i None o is = tt
 
+-- entries, and contexts, stand in the tables
+in_list : {X : Type 0} (xs : List X) (i : ℕ) (x : X) → slice_get xs i ≡ Some x → i < length xs
+in_list [] i x h = cc
+in_list (y ∷ xs) zero x h = omega arith
+in_list (y ∷ xs) (suc i) x h = let less = in_list xs i x h in omega arith
+
+below_context : (es : List Entry) (n k c : ℕ) (cs : List ℕ) → are_contexts es n cs ≡ true → slice_get cs k ≡ Some c → c < n
+unfolding are_contexts
+below_context es n k c [] h e = cc
+below_context es n zero c (d ∷ cs) h e =
+    let same : d ≡ c = cc in
+    rw (← same) (ltb-true d n (and_parts (ltb d n) (is_object (slice_get es d) && are_contexts es d cs) h).0)
+below_context es n (suc k) c (d ∷ cs) h e =
+    let parts = and_parts (ltb d n) (is_object (slice_get es d) && are_contexts es d cs) h in
+    let more = and_parts (is_object (slice_get es d)) (are_contexts es d cs) parts.1 in
+    let low : c < d = below_context es d k c cs more.1 e in
+    let high : d < n = ltb-true d n parts.0 in
+    omega arith
+
+past : {X : Type 0} (xs : List X) (i : ℕ) (d : X) → length xs ≤ i → get_or xs i d ≡ d
+past [] i d h = refl
+past (x ∷ xs) zero d h = absurd (omega arith)
+past (x ∷ xs) (suc i) d h = past xs i d (omega arith)
+
+pub in_tables : (s : State) → length s.tables ≡ 9 → length s.stacks ≡ 9 → IsOrderly s → InTables s
+unfolding entry table stack
+in_tables s nine each o =
+    record {
+      entries = λ t i e is.
+          let less = in_list (get_or s.tables t no_table).entries i e is in
+          let few = o.few t in (
+            elim (cases_lt t 9) [
+              | inl l ↦ l
+              | inr ge ↦ let none = past s.tables t no_table (omega arith) in absurd (omega (arith, rw none at less))
+            ],
+            omega (arith, less, few),
+            all_fit_at t i (get_or s.tables t no_table).entries e (o.entries t) is,
+          );
+      contexts = λ q k c is.
+          let less = below_context (get_or s.tables q no_table).entries (length (get_or s.tables q no_table).entries) k c (get_or s.stacks q []) (o.contexts q) is in
+          let few = o.few q in (
+            elim (cases_lt q 9) [
+              | inl l ↦ l
+              | inr ge ↦ let none = past s.stacks q [] (omega arith) in absurd (no_item (get_or s.stacks q []) k c none is)
+            ],
+            omega (arith, less, few),
+          );
+    }
+  where
+    no_item : (xs : List ℕ) (k c : ℕ) → xs ≡ [] → slice_get xs k ≡ Some c → ⊥
+    no_item [] k c e h = cc
+    no_item (x ∷ xs) k c e h = cc
+
 -- a store that was just made
 pub all_default : {X : Type 0} (n i : ℕ) (x : X) → get_or (replicate n x) i x ≡ x
 all_default zero i x = refl
@@ -223,14 +291,7 @@ all_default (suc n) (suc i) x = all_default n i x
 
 pub orderly_empty : (l : List ℕ) → IsOrderly (empty l)
 unfolding empty table stack all_fit are_contexts
-orderly_empty l = record { entries = λ t. rw (all_default 9 t no_table); contexts = λ q. rw (all_default {X = List ℕ} 9 q []) }
-
--- room in a table, as numbers
-pub room_is : (x : Table) (n : ℕ) → has_room x n ≡ true → (length x.entries < 64) × (x.claim + n ≤ 2048)
-unfolding has_room
-room_is x n h =
-    let both : (ltb (length x.entries) 64 ≡ true) × (leb (x.claim + n) 2048 ≡ true) = and_parts (ltb (length x.entries) 64) (leb (x.claim + n) 2048) h in
-    (ltb-true (length x.entries) 64 both.0, leb-true (x.claim + n) 2048 both.1)
+orderly_empty l = record { few = λ t. rw (all_default 9 t no_table) (omega arith); entries = λ t. rw (all_default 9 t no_table); contexts = λ q. rw (all_default {X = List ℕ} 9 q []) }
 
 -- what stands at a place of a list, by what a look-up there answers
 pub at_none : {X : Type 0} (xs : List X) (i : ℕ) (d : X) → slice_get xs i ≡ None → get_or xs i d ≡ d

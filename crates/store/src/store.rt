@@ -1,11 +1,12 @@
 // A store: its directory, and the bank that holds the bytes of its objects.
+ghost use Rattle.std.specs.List.{slice_get};
 ghost use Rattle.std.specs.Prelude.{◌≡◌, ◌+◌, ◌-◌, ◌*◌, ◌<◌, ◌≤◌, IfSome, OnSome, Some, length, nat_le, true};
 ghost use Rattle.rules.specs.Effects.{overwrite, put};
 ghost use Rattle.rules.specs.Operators.{calling as calling_of};
 ghost use Rattle.rules.specs.State.{block_start, empty, entry as entry_at, held as held_at, level as level_of, named as named_by, shown as shown_at, stack as stack_at, table as table_at};
 ghost use Rattle.rules.specs.Tests.{current as current_of};
 ghost use Rattle.store.specs.Callers.{Names, descriptor_of};
-ghost use Rattle.store.specs.Orderly.{fits_table, is_object};
+ghost use Rattle.store.specs.Orderly.{InTables, fits_table, is_object};
 
 use crate::operands::Found;
 use bank::Bank;
@@ -80,7 +81,8 @@ impl<B: Bank> Store<B> {
             .map_or(0, |stack| stack.level())
     }
 
-    pub(crate) fn has_large_bank(&self) -> bool
+    /// Whether the bank has the bytes that a store needs.
+    pub fn has_large_bank(&self) -> bool
         ensures { result ≡ nat_le 18432 (length self.now.bytes) }
     {
         self.bank.size() as usize >= SMALLEST_BANK
@@ -107,20 +109,33 @@ impl<B: Bank> Store<B> {
         self.directory.stacks[task.index()].calling()
     }
 
+    /// An open context of a task: the index of its entry in the task's table. Number 0 is the
+    /// current one, and each further number the one from which that of the number before was called.
+    #[tactic(auto, using(std::proofs::lemmas::Option::get_or_from_slice_get, crate::proofs::Orders::at_none), unfolding(rules::specs::State::stack))]
+    pub fn context(&self, task: u32, number: usize) -> Option<Below<ENTRIES>>
+        ensures value { result ≡ slice_get (stack_at self.now task) number }
+        ensures bound { OnSome result (task < 9) }
+    {
+        self.directory.stacks.get(task as usize)?.get(number)
+    }
+
+    /// An entry, by its table and its index there, if it is there.
     #[inline(always)]
     #[tactic(auto, using(std::proofs::lemmas::Option::get_or_from_slice_get, crate::proofs::Orders::at_none), unfolding(rules::specs::State::entry, rules::specs::State::table))]
-    pub(crate) fn entry(&self, table: u32, index: u32) -> Option<Entry>
+    pub fn entry(&self, table: u32, index: u32) -> Option<Entry>
         ensures value { result ≡ entry_at self.now table index }
         ensures bound { OnSome result ((table < 9) × (index < 64)) }
         ensures fits { IfSome result (λ e. fits_table table e ≡ true) }
+        ensures in_tables { InTables self.now }
     {
         self.directory.tables.get(table as usize)?.entry(index)
     }
 
-    // What an entry shows.
+    /// What an entry shows; one that is not there shows nothing.
     #[tactic(auto, unfolding(rules::specs::State::shown))]
-    pub(crate) fn shown(&self, table: u32, index: u32) -> Shown
+    pub fn shown(&self, table: u32, index: u32) -> Shown
         ensures value { result ≡ shown_at self.now table index }
+        ensures object { (result.owner < 9) × (result.object < 64) }
         ensures runs { (result.byte + result.bytes < 65536) × (result.slot + result.slots < 65536) }
     {
         match self.entry(table, index) {
@@ -137,6 +152,7 @@ impl<B: Bank> Store<B> {
         requires small { (table < 65536) × (index < 65536) }
         requires fits { fits_table table entry ≡ true }
         ensures value { result ≡ shown_at self.now table index }
+        ensures object { table < 9 → index < 64 → (result.owner < 9) × (result.object < 64) }
         ensures runs { (result.byte + result.bytes < 65536) × (result.slot + result.slots < 65536) }
     {
         match entry {
@@ -164,14 +180,23 @@ impl<B: Bank> Store<B> {
         Shown::whole(task.get() as u16, context.get() as u16, object)
     }
 
+    /// The word that a slot holds.
+    #[inline(always)]
+    #[tactic(auto, unfolding(rules::specs::State::held))]
+    pub fn word(&self, place: Place) -> u32
+        ensures { result ≡ held_at self.now place }
+    {
+        self.bank.read_word(place.by.slot_at(place.at))
+    }
+
     // What the word in a slot names.
     #[inline(always)]
-    #[tactic(auto, unfolding(rules::specs::State::held, rules::specs::State::named))]
+    #[tactic(auto, unfolding(rules::specs::State::named))]
     pub(crate) fn held(&self, place: Place) -> Option<Found>
         ensures value { named_by self.now (held_at self.now place) ≡ descriptor_of result }
         ensures entry { IfSome result (λ f. Names self.now f) }
     {
-        let word = self.bank.read_word(place.by.slot_at(place.at));
+        let word = self.word(place);
         if !is_valid(word) {
             return None;
         }

@@ -5,8 +5,10 @@ ghost use Rattle.std.specs.List.{slice_get};
 use std::fmt;
 use std::marker::Model;
 
-// A list of at most N items: the first `count` of an array. The items past the end are whatever
-// was there, so that cutting the list costs nothing.
+/// A list of at most `N` items, which lie in the value itself.
+//
+// They are the first `count` of an array. The items past the end are whatever was there, so that
+// cutting the list costs nothing.
 #[derive(Drop)]
 pub struct BoundedList<T: Copy, const N: usize> {
     items: [T; N],
@@ -27,7 +29,7 @@ impl<T: Copy, const N: usize> Model for BoundedList<T, N> {
 }
 
 impl<T: Copy, const N: usize> BoundedList<T, N> {
-    // An empty list, whose places hold the given item.
+    /// An empty list, whose places hold the given item.
     pub fn new(blank: T) -> BoundedList<T, N>
         ensures { result ≡ [] }
     {
@@ -37,6 +39,7 @@ impl<T: Copy, const N: usize> BoundedList<T, N> {
         }
     }
 
+    /// How many items it has.
     #[inline(always)]
     pub fn len(&self) -> usize
         ensures value { result ≡ length self.now }
@@ -45,6 +48,7 @@ impl<T: Copy, const N: usize> BoundedList<T, N> {
         self.count // of the items, not of the places
     }
 
+    /// The item of an index, if there is one.
     #[inline(always)]
     pub fn get(&self, index: usize) -> Option<T>
         ensures value { result ≡ slice_get self.now index }
@@ -53,7 +57,7 @@ impl<T: Copy, const N: usize> BoundedList<T, N> {
         self.items[..self.count].get(index).copied()
     }
 
-    // The item that stands so many places before the last one.
+    /// The item that stands so many places before the last one, if there is one.
     #[inline(always)]
     pub fn from_end(&self, places: usize) -> Option<T>
         ensures { result ≡ slice_get (reverse self.now) places }
@@ -61,6 +65,7 @@ impl<T: Copy, const N: usize> BoundedList<T, N> {
         self.items[..self.count].iter().rev().nth(places).copied()
     }
 
+    /// Adds an item behind the others, for which there must be a place.
     #[inline(always)]
     pub fn push(&mut self, item: T)
         requires { length self.old < N }
@@ -70,7 +75,7 @@ impl<T: Copy, const N: usize> BoundedList<T, N> {
         self.count += 1;
     }
 
-    // Keeps the first items.
+    /// Keeps the first items, so many.
     #[inline(always)]
     pub fn truncate(&mut self, count: usize)
         ensures { self.new ≡ take count self.old }

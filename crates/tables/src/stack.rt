@@ -1,5 +1,6 @@
 // The open contexts of a task.
 ghost use Rattle.std.specs.Prelude.{◌≡◌, ◌<◌, ◌≤◌, [], ◌∷◌, length};
+ghost use Rattle.std.specs.List.{slice_get};
 ghost use Rattle.rules.specs.Effects.{popped};
 ghost use Rattle.rules.specs.Operators.{calling as calling_of};
 ghost use Rattle.rules.specs.Tests.{current as current_of};
@@ -61,6 +62,15 @@ impl Stack {
         ensures { result ≡ calling_of self.now }
     {
         self.contexts.from_end(1)
+    }
+
+    /// An open context by its number: 0 is the current one, and each further number the one from
+    /// which that of the number before was called.
+    #[inline(always)]
+    pub fn get(&self, number: usize) -> Option<Below<ENTRIES>>
+        ensures { result ≡ slice_get self.now number }
+    {
+        self.contexts.from_end(number)
     }
 
     /// Opens a context, for which there must be a level.
