@@ -166,7 +166,7 @@ module _ (P : ℕ) where
         | inr foreign ↦ rw foreign.0 (follows rs (step r s) u fine h foreign.1)
       ]
 
-  fine_run : (rs : List Request) (s : State) → Fine P s → Fine P (run rs s)
+  pub fine_run : (rs : List Request) (s : State) → Fine P s → Fine P (run rs s)
   unfolding run
   fine_run [] s f = f
   fine_run (r ∷ rs) s f = fine_run rs (step r s) (fine_call P r.call r.bytes s f)

@@ -1,0 +1,10 @@
+pub mod Taking
+pub mod Steps
+pub mod Chains
+pub mod Lasts
+pub mod Weights
+pub mod Finds
+pub mod Folds
+pub mod Follows
+pub mod Exact
+pub mod Marks
