@@ -39,7 +39,7 @@ pub record Turn (out : List ℕ) (ls all : List (List ℕ)) (s begin : State) : 
   pub printed : out ++ answers ls s ≡ answers all begin
   pub made : run (requests_of ls) s ≡ run (requests_of all) begin
 
-run_after : (o : Option Request) (ls : List (List ℕ)) (l : List ℕ) (s : State) → line_of l ≡ o → run (requests_of ls) (state_after o s) ≡ run (requests_of (l ∷ ls)) s
+pub run_after : (o : Option Request) (ls : List (List ℕ)) (l : List ℕ) (s : State) → line_of l ≡ o → run (requests_of ls) (state_after o s) ≡ run (requests_of (l ∷ ls)) s
 unfolding run
 run_after None ls l s e = rw e
 run_after (Some r) ls l s e = rw e

@@ -6,4 +6,6 @@ mod outcome;
 mod script;
 mod text;
 
-pub use script::{LONGEST, answer_script};
+pub use line::{Line, parse_line};
+pub use script::{HEADER, LONGEST, answer_script};
+pub use text::{Lines, cut, number};

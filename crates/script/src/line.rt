@@ -10,11 +10,13 @@ use rules::{Call, Load, Operator};
 
 const SPACE: u8 = b' ';
 
-// A line that is a call: the call and the byte beside it, which is 0 where the call takes none.
+/// A line that is a call.
 #[derive(Clone, Copy, Debug, PartialEq, Eq)]
-pub(crate) struct Line {
-    pub(crate) call: Call,
-    pub(crate) byte: u8,
+pub struct Line {
+    /// The call.
+    pub call: Call,
+    /// The byte beside it, which is 0 where the call takes none.
+    pub byte: u8,
 }
 
 // The numbers of a line, by the names of the format's header.
@@ -224,9 +226,9 @@ fn byte_beside(call: Call, n: Numbers) -> u16
     }
 }
 
-// The line that a text is.
+/// The line that a text is, if it is one: a word that names a call, and seven numbers.
 #[tactic(auto, unfolding(crate::specs::Lines::line_of))]
-pub(crate) fn parse_line(text: &[u8]) -> Option<Line>
+pub fn parse_line(text: &[u8]) -> Option<Line>
     ensures { option_map request_of result ≡ line_of text.now }
 {
     let (word, rest) = cut(text, SPACE);

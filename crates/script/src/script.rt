@@ -12,7 +12,8 @@ use bank::{Bank, PlainBank};
 use std::alloc::{AllocError, Global};
 use store::{SMALLEST_BANK, Store};
 
-const HEADER: &[u8] = b"do task a b c d e f";
+/// The first line of every script.
+pub const HEADER: &[u8] = b"do task a b c d e f";
 
 /// The most bytes that a script may have.
 pub const LONGEST: usize = 16384;

@@ -8,8 +8,8 @@ const NEWLINE: u8 = b'\n';
 
 const MOST_DIGITS: usize = 5;
 
-// What stands before the first separator, and what stands behind it, if there is one.
-pub(crate) fn cut(text: &[u8], separator: u8) -> (&[u8], Option<&[u8]>)
+/// What stands before the first separator, and what stands behind it, if there is one.
+pub fn cut(text: &[u8], separator: u8) -> (&[u8], Option<&[u8]>)
     ensures front { result.0.now ≡ before separator text.now }
     ensures rest { option_map (λ x. x.now) result.1 ≡ behind separator text.now }
 {
@@ -19,11 +19,12 @@ pub(crate) fn cut(text: &[u8], separator: u8) -> (&[u8], Option<&[u8]>)
     }
 }
 
-// The lines of a text, each ended by a newline, which the last may lack. No line begins behind the
-// last newline.
+/// The lines of a text, each ended by a newline, which the last may lack. No line begins behind the
+/// last newline.
 #[derive(Clone, Copy, Debug)]
-pub(crate) struct Lines<'a> {
-    pub(crate) rest: &'a [u8],
+pub struct Lines<'a> {
+    /// The text that is left.
+    pub rest: &'a [u8],
 }
 
 impl<'a> Iterator for Lines<'a> {
@@ -43,8 +44,8 @@ impl<'a> Iterator for Lines<'a> {
     }
 }
 
-// The number that a field writes: 1 to 5 digits, at most 65,535.
-pub(crate) fn number(text: &[u8]) -> Option<u16>
+/// The number that a field writes, if it writes one: 1 to 5 digits, at most 65,535.
+pub fn number(text: &[u8]) -> Option<u16>
     ensures { result ≡ number_of text.now }
 {
     if text.is_empty() || text.len() > MOST_DIGITS {

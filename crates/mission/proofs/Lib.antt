@@ -1,0 +1,3 @@
+mod Betweens
+mod Lists
+mod Steps

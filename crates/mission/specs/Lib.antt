@@ -1,0 +1,4 @@
+pub mod Chains
+pub mod Obstacles
+pub mod Reading
+pub mod Standings
