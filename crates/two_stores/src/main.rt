@@ -1,18 +1,19 @@
 // Two stores on two kinds of bank, with the same attitude task and with another payload: a quiet
-// one here, a hostile one there. Prints the outcomes of the attitude task's calls in both; then the
-// same where the payload may write what the attitude task reads.
+// one here, a hostile one there. Prints whether the attitude task is separate in each, the outcomes
+// of its calls in both, and whether it sees a difference; then the same where the payload may write
+// what the attitude task reads.
 #![tactic(auto)]
 
 mod stores;
 mod tasks;
 
 use isolation::outcomes_of;
-use rules::{Answer, Call, Operator};
+use rules::{Answer, Call, Fault, Operator};
 use runs::{Outcome, Request};
 use std::alloc::{AllocError, Global};
 use std::fmt::Write;
 use std::io;
-use stores::{differ, on_coded, on_plain};
+use stores::{on_coded, on_plain, watched};
 use tasks::{ATTITUDE, PAYLOAD};
 
 // The requests from one place of a list to another, as far as there are so many.
@@ -101,10 +102,27 @@ fn print_payload(rt: &HostRuntime, which: &str, outcomes: &[&Outcome]) -> io::Re
     println!(rt; "  The {which} payload made {calls} calls, of which {refused} were refused.")
 }
 
+fn yes_or_no(answer: bool) -> &'static str {
+    if answer { "yes" } else { "no" }
+}
+
+// Prints what a store answers to the question whether the attitude task is separate.
+fn print_separate(rt: &HostRuntime, bank: &str, answer: Result<bool, Fault>) -> io::Result<()> {
+    print!(rt; "  Is the attitude task separate on the {bank} bank? ")?;
+    match answer {
+        Ok(separate) => println!(rt; "{}", yes_or_no(separate)),
+        Err(fault) => println!(rt; "{fault}"),
+    }
+}
+
 fn compare(rt: &HostRuntime, title: &str, payload_may_write: bool) -> io::Result<()> {
     println!(rt; "{title}\n")?;
     let quiet = mixed(rt, &tasks::quiet_payload(), 1)?;
     let hostile = mixed(rt, &tasks::hostile_payload(rt.alloc())?, 40)?;
+    let answers = watched(rt, payload_may_write, &quiet, &hostile)?;
+    print_separate(rt, "plain", answers.separate_on_left)?;
+    print_separate(rt, "coded", answers.separate_on_right)?;
+    println!(rt; "")?;
     let left = on_plain(rt, payload_may_write, &quiet)?;
     let right = on_coded(rt, payload_may_write, &hostile)?;
     print_steps(
@@ -123,23 +141,19 @@ fn compare(rt: &HostRuntime, title: &str, payload_may_write: bool) -> io::Result
         "hostile",
         &outcomes_of(rt.alloc(), PAYLOAD, &hostile, &right)?,
     )?;
-    let answer = if differ(rt, payload_may_write, &quiet, &hostile)? {
-        "yes"
-    } else {
-        "no"
-    };
-    println!(rt; "  Does the attitude task see a difference? {answer}\n")
+    let differs = yes_or_no(answers.differs);
+    println!(rt; "  Does the attitude task see a difference? {differs}\n")
 }
 
 fn main(rt: HostRuntime) -> io::Result<()> {
     compare(
         &rt,
-        "1. The payload may read the record, as the attitude task may. Neither may write it: the attitude task is separate.",
+        "1. The payload may read the record, as the attitude task may. Neither may write it.",
         false,
     )?;
     compare(
         &rt,
-        "2. The payload may write the record that the attitude task reads: the attitude task is not separate, and nothing is promised.",
+        "2. The payload may write the record that the attitude task reads.",
         true,
     )
 }

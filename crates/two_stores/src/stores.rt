@@ -1,9 +1,9 @@
 // The two stores: how they are loaded, and what they make of requests.
 use crate::tasks::{ATTITUDE, PAYLOAD};
 use bank::{Bank, CodedBank, PlainBank};
-use isolation::sees_difference;
 use rules::{Call, Load};
 use runs::{Outcome, Request};
+use sharing::{Watched, watch};
 use std::io;
 use store::{SMALLEST_BANK, Store};
 
@@ -33,18 +33,19 @@ pub(crate) fn on_coded(
     Ok(isolation::run(rt.alloc(), &mut store, requests)?)
 }
 
-// Whether the attitude task sees a difference between two new stores.
-pub(crate) fn differ(
+// Whether the attitude task is separate in each of two new stores, and whether it sees a difference
+// between them.
+pub(crate) fn watched(
     rt: &HostRuntime,
     payload_may_write: bool,
     quiet: &[Request<'_>],
     hostile: &[Request<'_>],
-) -> io::Result<bool> {
+) -> io::Result<Watched> {
     let mut bytes = vec![in rt.alloc(); 0u8; SMALLEST_BANK]?;
     let mut words = vec![in rt.alloc(); 0u16; SMALLEST_BANK]?;
     let mut plain = loaded(rt, PlainBank::new(bytes.as_mut_slice()), payload_may_write)?;
     let mut coded = loaded(rt, CodedBank::new(words.as_mut_slice()), payload_may_write)?;
-    Ok(sees_difference(rt.alloc(), ATTITUDE, &mut plain, quiet, &mut coded, hostile)?)
+    Ok(watch(rt.alloc(), ATTITUDE, &mut plain, quiet, &mut coded, hostile)?)
 }
 
 // A loaded and sealed store.
