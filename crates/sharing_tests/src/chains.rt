@@ -1,7 +1,9 @@
 // Stores in which one entry leads to the next, over many steps.
+use crate::asking::{both, first_two, is_separate, told};
+use crate::calls::{SEAL, control, grant, made, make, place, task};
 use bank::{Bank, PlainBank};
-use rules::{Fault, Rights};
-use sharing::{Reach, Side, separate};
+use rules::Fault;
+use sharing::{Reach, Side};
 use std::test::Fail;
 use store::{SMALLEST_BANK, Store};
 
@@ -9,27 +11,41 @@ const TABLES: u32 = 9;
 
 const ENTRIES: u32 = 64;
 
+// Fills table 0 with objects of one slot. Each but the first is named by the one before it with
+// read, and the last with some rights.
+fn load_upwards<B: Bank>(store: &mut Store<B>, last: u32) -> Result<(), Fault> {
+    make(store, &[task(1, 8), task(2, 8), place(0, 0, 1, 0)])?;
+    for index in 1..ENTRIES {
+        let rights = if index == 63 { last } else { 1 };
+        let calls = [place(0, 0, 1, 0), grant(0, index - 1, 0, 0, index, rights)];
+        make(store, &calls)?;
+    }
+    Ok(())
+}
+
 #[test]
 fn the_last_of_a_table_is_found_through_all_others(rt: HostRuntime) -> Result<(), Fail> {
     for (last, answer) in [(1, true), (3, false)] {
         let mut memory = vec![in rt.alloc(); 0u8; SMALLEST_BANK]?;
-        let mut store = Store::new(PlainBank::new(memory.as_mut_slice()));
-        store.task(1, 8)?;
-        store.task(2, 8)?;
-        for index in 0..ENTRIES {
-            store.place(0, 0, 1, 0)?;
-            if index > 0 {
-                let rights = if index == 63 { last } else { 1 };
-                store.grant(0, index - 1, 0, 0, index, rights)?;
-            }
-        }
-        store.grant(1, 0, 4, 0, 0, 1)?;
-        store.grant(2, 0, 4, 0, 63, 1)?;
-        store.seal()?;
-        assert_eq!(rt; separate(&store, 1), Ok(answer));
-        assert_eq!(rt; separate(&store, 2), Ok(answer));
+        let mut store = made(PlainBank::new(memory.as_mut_slice()), &[])?;
+        load_upwards(&mut store, last)?;
+        let calls = [grant(1, 0, 4, 0, 0, 1), grant(2, 0, 4, 0, 63, 1), SEAL];
+        make(&mut store, &calls)?;
+        assert_eq!(rt; first_two(&store), both(answer));
         // the chain the other way is no way
-        assert!(rt; !Reach::of(&store, Side::Only(2)).reaches(0, 62));
+        let before = told(&store, Side::Only(2), 0, 62);
+        assert_eq!(rt; before, (None, false, false));
+    }
+    Ok(())
+}
+
+// The same, but each is named by the one after it, and the first with some rights.
+fn load_downwards<B: Bank>(store: &mut Store<B>, last: u32) -> Result<(), Fault> {
+    make(store, &[task(1, 8), task(2, 8), place(0, 0, 1, 0)])?;
+    for index in 1..ENTRIES {
+        let rights = if index == 1 { last } else { 1 };
+        let calls = [place(0, 0, 1, 0), grant(0, index, 0, 0, index - 1, rights)];
+        make(store, &calls)?;
     }
     Ok(())
 }
@@ -38,21 +54,11 @@ fn the_last_of_a_table_is_found_through_all_others(rt: HostRuntime) -> Result<()
 fn a_chain_from_the_last_to_the_first(rt: HostRuntime) -> Result<(), Fail> {
     for (last, answer) in [(1, true), (3, false)] {
         let mut memory = vec![in rt.alloc(); 0u8; SMALLEST_BANK]?;
-        let mut store = Store::new(PlainBank::new(memory.as_mut_slice()));
-        store.task(1, 8)?;
-        store.task(2, 8)?;
-        for index in 0..ENTRIES {
-            store.place(0, 0, 1, 0)?;
-            if index > 0 {
-                let rights = if index == 1 { last } else { 1 };
-                store.grant(0, index, 0, 0, index - 1, rights)?;
-            }
-        }
-        store.grant(1, 0, 4, 0, 63, 1)?;
-        store.grant(2, 0, 4, 0, 63, 1)?;
-        store.seal()?;
-        assert_eq!(rt; separate(&store, 1), Ok(answer));
-        assert_eq!(rt; separate(&store, 2), Ok(answer));
+        let mut store = made(PlainBank::new(memory.as_mut_slice()), &[])?;
+        load_downwards(&mut store, last)?;
+        let calls = [grant(1, 0, 4, 0, 63, 1), grant(2, 0, 4, 0, 63, 1), SEAL];
+        make(&mut store, &calls)?;
+        assert_eq!(rt; first_two(&store), both(answer));
     }
     Ok(())
 }
@@ -73,25 +79,32 @@ fn load_chain<B: Bank>(store: &mut Store<B>, last: u32) -> Result<(), Fault> {
     store.grant(table, index, 0, 0, 0, last)
 }
 
+// Whether a task reaches every entry of a store, and can alter the first of tables 0 and 1 alone.
+fn reaches_all<B: Bank>(store: &Store<B>, task: u32) -> bool {
+    let own = Reach::of(store, Side::Only(task));
+    for table in 0..TABLES {
+        for index in 0..ENTRIES {
+            let alters = matches!((table, index), (0, 0) | (1, 0));
+            if !own.reaches(table, index) || own.alters(table, index) != alters {
+                return false;
+            }
+        }
+    }
+    true
+}
+
 // The context of the only task and 575 objects.
 #[test]
 fn a_chain_through_nine_full_tables(rt: HostRuntime) -> Result<(), Fail> {
     let mut memory = vec![in rt.alloc(); 0u8; SMALLEST_BANK]?;
-    let mut store = Store::new(PlainBank::new(memory.as_mut_slice()));
-    store.task(1, 4)?;
+    let mut store = made(PlainBank::new(memory.as_mut_slice()), &[task(1, 4)])?;
     load_chain(&mut store, 34)?;
-    store.seal()?;
-    assert_eq!(rt; separate(&store, 1), Ok(true));
-    let own = Reach::of(&store, Side::Only(1));
+    make(&mut store, &[SEAL])?;
+    assert_eq!(rt; is_separate(&store, 1), Some(true));
     // the step from the last to the first adds to what was found before
-    assert_eq!(rt; own.rights(0, 0), Rights::new(35));
-    for table in 0..TABLES {
-        for index in 0..ENTRIES {
-            let alters = matches!((table, index), (0, 0) | (1, 0));
-            assert!(rt; own.reaches(table, index), "{table} {index}");
-            assert_eq!(rt; own.alters(table, index), alters, "{table} {index}");
-        }
-    }
+    let first = told(&store, Side::Only(1), 0, 0);
+    assert_eq!(rt; first, (Some(35), true, true));
+    assert!(rt; reaches_all(&store, 1));
     Ok(())
 }
 
@@ -101,14 +114,12 @@ fn a_chain_through_nine_full_tables(rt: HostRuntime) -> Result<(), Fail> {
 fn the_last_step_decides(rt: HostRuntime) -> Result<(), Fail> {
     for (last, answer) in [(1, true), (2, false)] {
         let mut memory = vec![in rt.alloc(); 0u8; SMALLEST_BANK]?;
-        let mut store = Store::new(PlainBank::new(memory.as_mut_slice()));
-        store.task(1, 4)?;
-        store.task(8, 4)?;
+        let calls = [task(1, 4), task(8, 4)];
+        let mut store = made(PlainBank::new(memory.as_mut_slice()), &calls)?;
         load_chain(&mut store, last)?;
-        store.grant(8, 0, 0, 0, 0, 0)?;
-        store.seal()?;
-        assert_eq!(rt; separate(&store, 1), Ok(answer));
-        assert_eq!(rt; separate(&store, 8), Ok(answer));
+        make(&mut store, &[grant(8, 0, 0, 0, 0, 0), SEAL])?;
+        assert_eq!(rt; is_separate(&store, 1), Some(answer));
+        assert_eq!(rt; is_separate(&store, 8), Some(answer));
     }
     Ok(())
 }
@@ -117,32 +128,36 @@ fn the_last_step_decides(rt: HostRuntime) -> Result<(), Fail> {
 // control of the other's type or of its own.
 #[test]
 fn controls_are_found_one_by_the_other(rt: HostRuntime) -> Result<(), Fail> {
-    for (last, answer) in [(2, false), (4, true)] {
+    for (last, joined, answer) in [(2, 3, false), (4, 5, true)] {
         let mut memory = vec![in rt.alloc(); 0u8; SMALLEST_BANK]?;
-        let mut store = Store::new(PlainBank::new(memory.as_mut_slice()));
-        store.task(1, 8)?;
-        store.task(2, 8)?;
-        let first = store.place(0, 0, 1, 16)?;
-        let reads = store.control(0, 16, 1)?;
-        let second = store.place(0, 0, 1, 17)?;
-        let reads_too = store.control(0, 17, 1)?;
-        let writes = store.control(0, 17, last)?;
-        store.grant(0, first, 0, 0, reads_too, 8)?;
-        store.grant(0, second, 0, 0, writes, 8)?;
-        store.grant(1, 0, 3, 0, second, 0)?;
-        store.grant(1, 0, 4, 0, first, 0)?;
-        store.grant(1, 0, 5, 0, reads, 8)?;
-        store.grant(2, 0, 4, 0, second, 0)?;
-        store.seal()?;
-        assert_eq!(rt; separate(&store, 1), Ok(answer), "{last}");
-        assert_eq!(rt; separate(&store, 2), Ok(answer), "{last}");
-        let own = Reach::of(&store, Side::Only(1));
-        assert_eq!(rt; own.rights(0, first), Rights::new(1));
-        assert_eq!(rt; own.rights(0, second), Rights::new(1 + last));
-        assert_eq!(rt; own.rights(0, writes), Rights::new(8));
-        let theirs = Reach::of(&store, Side::Only(2));
-        assert_eq!(rt; theirs.rights(0, second), Rights::new(0));
-        assert_eq!(rt; theirs.rights(0, writes), None);
+        let calls = [
+            task(1, 8),
+            task(2, 8),
+            place(0, 0, 1, 16), // 0: the first
+            control(0, 16, 1), // 1: reads the first
+            place(0, 0, 1, 17), // 2: the second
+            control(0, 17, 1), // 3: reads the second
+            control(0, 17, last), // 4: writes the second
+            grant(0, 0, 0, 0, 3, 8),
+            grant(0, 2, 0, 0, 4, 8),
+            grant(1, 0, 3, 0, 2, 0),
+            grant(1, 0, 4, 0, 0, 0),
+            grant(1, 0, 5, 0, 1, 8),
+            grant(2, 0, 4, 0, 2, 0),
+            SEAL,
+        ];
+        let store = made(PlainBank::new(memory.as_mut_slice()), &calls)?;
+        assert_eq!(rt; first_two(&store), both(answer), "{last}");
+        for (side, index, rights) in [
+            (Side::Only(1), 0, Some(1)),
+            (Side::Only(1), 2, Some(joined)),
+            (Side::Only(1), 4, Some(8)),
+            (Side::Only(2), 2, Some(0)),
+            (Side::Only(2), 4, None),
+        ] {
+            let (found, _, _) = told(&store, side, 0, index);
+            assert_eq!(rt; found, rights, "{side:?} {index}");
+        }
     }
     Ok(())
 }
@@ -151,21 +166,24 @@ fn controls_are_found_one_by_the_other(rt: HostRuntime) -> Result<(), Fail> {
 #[test]
 fn a_control_found_again_with_more_rights(rt: HostRuntime) -> Result<(), Fail> {
     let mut memory = vec![in rt.alloc(); 0u8; SMALLEST_BANK]?;
-    let mut store = Store::new(PlainBank::new(memory.as_mut_slice()));
-    store.task(1, 8)?;
-    store.task(2, 8)?;
-    let folder = store.place(0, 0, 2, 0)?;
-    let control = store.control(0, 16, 2)?;
-    let object = store.place(0, 0, 0, 16)?;
-    store.grant(0, folder, 1, 0, control, 8)?;
-    store.grant(1, 0, 2, 0, control, 55)?;
-    store.grant(1, 0, 3, 0, object, 1)?;
-    store.grant(1, 0, 4, 0, folder, 1)?;
-    store.grant(2, 0, 4, 0, object, 1)?;
-    store.seal()?;
-    assert_eq!(rt; separate(&store, 1), Ok(false));
-    let own = Reach::of(&store, Side::Only(1));
-    assert_eq!(rt; own.rights(0, control), Rights::new(63));
-    assert_eq!(rt; own.rights(0, object), Rights::new(3));
+    let calls = [
+        task(1, 8),
+        task(2, 8),
+        place(0, 0, 2, 0), // 0: the folder
+        control(0, 16, 2), // 1: the control
+        place(0, 0, 0, 16), // 2: the object
+        grant(0, 0, 1, 0, 1, 8),
+        grant(1, 0, 2, 0, 1, 55),
+        grant(1, 0, 3, 0, 2, 1),
+        grant(1, 0, 4, 0, 0, 1),
+        grant(2, 0, 4, 0, 2, 1),
+        SEAL,
+    ];
+    let store = made(PlainBank::new(memory.as_mut_slice()), &calls)?;
+    assert_eq!(rt; is_separate(&store, 1), Some(false));
+    let of_control = told(&store, Side::Only(1), 0, 1);
+    let of_object = told(&store, Side::Only(1), 0, 2);
+    assert_eq!(rt; of_control, (Some(63), true, false));
+    assert_eq!(rt; of_object, (Some(3), true, true));
     Ok(())
 }

@@ -2,6 +2,10 @@
 #![tactic(auto)]
 
 #[cfg(test)]
+mod asking;
+#[cfg(test)]
+mod calls;
+#[cfg(test)]
 mod chains;
 #[cfg(test)]
 mod comparison;

@@ -1,4 +1,6 @@
 // The faults with which the question is refused.
+use crate::asking::is_separate;
+use crate::calls::{SEAL, made, task};
 use bank::{Bank, PlainBank};
 use rules::{Fault, slot};
 use sharing::separate;
@@ -29,7 +31,7 @@ fn faults<B: Bank>(
 #[test]
 fn a_small_bank_is_told_first(rt: HostRuntime) -> Result<(), Fail> {
     let mut memory = vec![in rt.alloc(); 0u8; SMALLEST_BANK - 1]?;
-    let store = Store::new(PlainBank::new(memory.as_mut_slice()));
+    let store = made(PlainBank::new(memory.as_mut_slice()), &[])?;
     for task in [0, 1, 8, 9, 4_294_967_295] {
         let fault = Some((1, task, 0, 0));
         assert_eq!(rt; faults(&store, task), (fault, fault));
@@ -40,8 +42,7 @@ fn a_small_bank_is_told_first(rt: HostRuntime) -> Result<(), Fail> {
 #[test]
 fn then_that_loading_has_not_ended(rt: HostRuntime) -> Result<(), Fail> {
     let mut memory = vec![in rt.alloc(); 0u8; SMALLEST_BANK]?;
-    let mut store = Store::new(PlainBank::new(memory.as_mut_slice()));
-    store.task(1, 4)?;
+    let store = made(PlainBank::new(memory.as_mut_slice()), &[task(1, 4)])?;
     for task in [0, 1, 2, 9, 4_294_967_295] {
         let fault = Some((2, task, 0, 0));
         assert_eq!(rt; faults(&store, task), (fault, fault));
@@ -52,16 +53,14 @@ fn then_that_loading_has_not_ended(rt: HostRuntime) -> Result<(), Fail> {
 #[test]
 fn then_that_the_task_is_not_loaded(rt: HostRuntime) -> Result<(), Fail> {
     let mut memory = vec![in rt.alloc(); 0u8; SMALLEST_BANK]?;
-    let mut store = Store::new(PlainBank::new(memory.as_mut_slice()));
-    store.task(1, 4)?;
-    store.task(8, 4)?;
-    store.seal()?;
+    let calls = [task(1, 4), task(8, 4), SEAL];
+    let store = made(PlainBank::new(memory.as_mut_slice()), &calls)?;
     for task in [0, 2, 7, 9, 10, 65_537, 4_294_967_295] {
         let fault = Some((3, task, 0, 0));
         assert_eq!(rt; faults(&store, task), (fault, fault));
     }
     for task in [1, 8] {
-        assert_eq!(rt; separate(&store, task), Ok(true));
+        assert_eq!(rt; is_separate(&store, task), Some(true));
         assert_eq!(rt; faults(&store, task), (None, None));
     }
     Ok(())
@@ -70,10 +69,10 @@ fn then_that_the_task_is_not_loaded(rt: HostRuntime) -> Result<(), Fail> {
 #[test]
 fn a_store_without_tasks_has_none_that_is_separate(rt: HostRuntime) -> Result<(), Fail> {
     let mut memory = vec![in rt.alloc(); 0u8; SMALLEST_BANK]?;
-    let mut store = Store::new(PlainBank::new(memory.as_mut_slice()));
-    store.seal()?;
+    let store = made(PlainBank::new(memory.as_mut_slice()), &[SEAL])?;
     for task in 0..10 {
-        assert_eq!(rt; parts_of(separate(&store, task)), Some((3, task, 0, 0)));
+        let fault = Some((3, task, 0, 0));
+        assert_eq!(rt; faults(&store, task), (fault, fault));
     }
     Ok(())
 }
