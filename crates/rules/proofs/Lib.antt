@@ -1,3 +1,4 @@
 pub mod Entries
+pub mod GrantedWord
 pub mod Unions
 pub mod Words
