@@ -44,7 +44,7 @@ impl Gathering {
         let mut gathering = Gathering {
             rights: [None; PLACES],
             added: [0; TYPES],
-            leads: BoundedList::new(Position::numbered(0)),
+            leads: BoundedList::new(),
         };
         gathering.take_contexts(store, side);
         for step in 0..PLACES {

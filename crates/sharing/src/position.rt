@@ -2,7 +2,7 @@
 ghost use Rattle.std.specs.Prelude.{◌≡◌, ◌+◌, ◌*◌, ◌<◌, ◌/◌, ◌%◌};
 
 use std::marker::Model;
-use tables::{ENTRIES, TABLES};
+use tables::{ENTRIES, Item, TABLES};
 
 // How many entries the tables can have together.
 pub(crate) const PLACES: usize = TABLES * ENTRIES;
@@ -23,6 +23,18 @@ impl Model for Position {
     ghost invariant = { λ p. p.number < 576 };
 
     ghost inverse = { λ n. record { number = n } };
+}
+
+impl Item for Position {
+    ghost blank = { 0 };
+
+    fn blank() -> Position {
+        Position { number: 0 }
+    }
+
+    ghost infallible = { λ x. tt };
+
+    ghost clones = { λ x y e. e };
 }
 
 impl Position {

@@ -1,23 +1,38 @@
 // Lists of a bounded length that lie in the value itself.
-ghost use Rattle.std.specs.Prelude.{◌≡◌, ◌<◌, ◌≤◌, List, [], ◌∷◌, ◌++◌, length, reverse, take, OnSome};
+ghost use Rattle.std.specs.Prelude.{◌≡◌, ◌-◌, ◌<◌, ◌≤◌, List, [], ◌∷◌, ◌++◌, length, reverse, take, OnSome};
 ghost use Rattle.std.specs.List.{slice_get};
 
 use std::fmt;
 use std::marker::Model;
 
+/// An item of a bounded list, with the one that stands in a place that holds none.
+pub trait Item: Copy {
+    ghost blank: { Self };
+
+    /// What stands in a place that holds no item.
+    fn blank() -> Self
+        ensures { result ≡ blank };
+
+    // A copy of an item is the item.
+    ghost infallible: { (x : Self) → Self.is_infallible x };
+
+    ghost clones: { (x y : Self) → Self.is_clone x y → y ≡ x };
+}
+
 /// A list of at most `N` items, which lie in the value itself.
 //
-// They are the first `count` of an array. The items past the end are whatever was there, so that
-// cutting the list costs nothing.
-#[derive(Drop)]
-pub struct BoundedList<T: Copy, const N: usize> {
+// They are the first `count` of an array. The places past the end are blank, so that two lists of
+// the same items are the same value, and a list can be copied.
+#[derive(Clone, Copy)]
+pub struct BoundedList<T: Item, const N: usize> {
     items: [T; N],
     count: usize,
 }
 
-impl<T: Copy, const N: usize> Model for BoundedList<T, N> {
-    ghost use Rattle.std.specs.Prelude.{◌≡◌, ◌≤◌, List, length, take};
+impl<T: Item, const N: usize> Model for BoundedList<T, N> {
+    ghost use Rattle.std.specs.Prelude.{◌≡◌, ◌-◌, ◌≤◌, ◌++◌, List, drop, length, replicate, take};
     ghost use Rattle.std.specs.Coded.{coded_list};
+    ghost use Rattle.std.proofs.Common.{arith, ap, sym, ◌∙◌, take-append-drop, length-take-le};
 
     ghost Value = { List T };
 
@@ -25,16 +40,32 @@ impl<T: Copy, const N: usize> Model for BoundedList<T, N> {
 
     ghost view = { λ l. take l.count l.items };
 
-    ghost invariant = { λ l. (l.count ≤ N) × (length l.items ≡ N) };
+    ghost invariant = { λ l. (l.count ≤ N) × (length l.items ≡ N)
+        × (drop l.count l.items ≡ replicate (N - l.count) T.blank) };
+
+    ghost inverse = { λ d. record {
+      items = d ++ replicate (N - length d) T.blank;
+      count = length d;
+    } };
+
+    ghost inverse_ok = { λ l h i.
+        let size : length (take l.count l.items) ≡ l.count =
+        length-take-le l.count l.items (omega (arith, h.0, h.1)) in
+        record {
+          items = (ap (λ n. take l.count l.items ++ replicate (N - n) T.blank) size
+              ∙ ap (λ xs. take l.count l.items ++ xs) (sym h.2)
+              ∙ take-append-drop l.count l.items) i;
+          count = size i;
+        } };
 }
 
-impl<T: Copy, const N: usize> BoundedList<T, N> {
-    /// An empty list, whose places hold the given item.
-    pub fn new(blank: T) -> BoundedList<T, N>
+impl<T: Item, const N: usize> BoundedList<T, N> {
+    /// An empty list.
+    pub fn new() -> BoundedList<T, N>
         ensures { result ≡ [] }
     {
         BoundedList {
-            items: [blank; N],
+            items: [T::blank(); N],
             count: 0,
         }
     }
@@ -75,17 +106,31 @@ impl<T: Copy, const N: usize> BoundedList<T, N> {
         self.count += 1;
     }
 
+    /// Drops the last item, if there is one.
+    #[inline(always)]
+    pub fn pop(&mut self)
+        ensures { self.new ≡ take (length self.old - 1) self.old }
+    {
+        if self.count > 0 {
+            self.count -= 1;
+            self.items[self.count] = T::blank();
+        }
+    }
+
     /// Keeps the first items, so many.
     #[inline(always)]
     pub fn truncate(&mut self, count: usize)
         ensures { self.new ≡ take count self.old }
     {
-        self.count = self.count.min(count);
+        let kept = self.count.min(count);
+        let places = &mut self.items[..];
+        places[kept..self.count].fill(T::blank());
+        self.count = kept;
     }
 }
 
 // The items, and not what stands in the places past the end.
-impl<T: Copy + fmt::Debug, const N: usize> fmt::Debug for BoundedList<T, N> {
+impl<T: Item + fmt::Debug, const N: usize> fmt::Debug for BoundedList<T, N> {
     fn fmt<W: fmt::Write>(&self, f: &mut fmt::Formatter<W>) -> fmt::Result {
         f.debug_list().slice(&self.items[..self.count]).finish()
     }

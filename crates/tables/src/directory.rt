@@ -4,7 +4,6 @@ ghost use Rattle.rules.specs.State.{empty};
 
 use crate::stack::Stack;
 use crate::table::Table;
-use std::array;
 
 /// How many tables a store has, and tasks: table 0 is of no task, and each other table of the task
 /// of its number.
@@ -12,7 +11,7 @@ pub const TABLES: usize = 9;
 
 /// Nine tables, the open contexts of the tasks, and the seal. Each is read and changed in its
 /// place; clauses see them by `state_of`, beside any bank's list.
-#[derive(Debug, Drop)]
+#[derive(Clone, Copy, Debug)]
 pub struct Directory {
     /// The tables, by their numbers.
     pub tables: [Table; TABLES],
@@ -33,8 +32,8 @@ impl Directory {
         ensures { (l : List ℕ) → state_of result l ≡ empty l }
     {
         Directory {
-            tables: array::from_fn(|_| Table::new()),
-            stacks: array::from_fn(|_| Stack::new()),
+            tables: [Table::new(); TABLES],
+            stacks: [Stack::new(); TABLES],
             sealed: false,
         }
     }

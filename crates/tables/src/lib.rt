@@ -6,7 +6,7 @@ mod directory;
 mod stack;
 mod table;
 
-pub use bounded::BoundedList;
+pub use bounded::{BoundedList, Item};
 pub use directory::{Directory, TABLES};
 pub use stack::{LEVELS, Stack};
 pub use table::{BLOCK, ENTRIES, Table};

@@ -5,7 +5,7 @@ ghost use Rattle.rules.specs.Effects.{popped};
 ghost use Rattle.rules.specs.Operators.{calling as calling_of};
 ghost use Rattle.rules.specs.Tests.{current as current_of};
 
-use crate::bounded::BoundedList;
+use crate::bounded::{BoundedList, Item};
 use crate::table::ENTRIES;
 use rules::Below;
 use std::marker::Model;
@@ -14,19 +14,36 @@ use std::marker::Model;
 /// 8.
 pub const LEVELS: usize = 8;
 
+impl Item for Below<ENTRIES> {
+    ghost blank = { 0 };
+
+    fn blank() -> Below<ENTRIES> {
+        Below::known(0)
+    }
+
+    ghost infallible = { λ x. tt };
+
+    ghost clones = { λ x y e. e };
+}
+
 /// The indices of a task's open contexts in its table, from level 1 on. Clauses see the current one
 /// first.
-#[derive(Debug, Drop)]
+#[derive(Clone, Copy, Debug)]
 pub struct Stack {
     contexts: BoundedList<Below<ENTRIES>, LEVELS>,
 }
 
 impl Model for Stack {
     ghost use Rattle.std.specs.Prelude.{ℕ, List, reverse};
+    ghost use Rattle.std.proofs.lemmas.List.{reverse-reverse};
 
     ghost Value = { List ℕ };
 
     ghost view = { λ k. reverse k.contexts };
+
+    ghost inverse = { λ cs. record { contexts = reverse cs } };
+
+    ghost inverse_ok = { λ k h i. record { contexts = reverse-reverse k.contexts i } };
 }
 
 impl Stack {
@@ -35,7 +52,7 @@ impl Stack {
         ensures { result ≡ [] }
     {
         Stack {
-            contexts: BoundedList::new(Below::known(0)),
+            contexts: BoundedList::new(),
         }
     }
 
@@ -87,7 +104,6 @@ impl Stack {
     pub fn pop(&mut self)
         ensures { self.new ≡ popped self.old }
     {
-        let kept = self.contexts.len().saturating_sub(1);
-        self.contexts.truncate(kept);
+        self.contexts.pop();
     }
 }

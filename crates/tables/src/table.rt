@@ -5,7 +5,7 @@ ghost use Rattle.rules.specs.Effects.{grown};
 ghost use Rattle.rules.specs.State.{no_table, takes};
 ghost use Rattle.rules.specs.Tests.{has_room};
 
-use crate::bounded::BoundedList;
+use crate::bounded::{BoundedList, Item};
 use rules::{Below, Entry, Kind, TypeControl};
 use std::marker::Model;
 
@@ -15,8 +15,26 @@ pub const BLOCK: u32 = 2048;
 /// How many entries a table has at most.
 pub const ENTRIES: usize = 64;
 
+// A type control that adds no right.
+impl Item for Entry {
+    ghost use Rattle.rules.specs.declared.entry.Entry.TheVariants.{Control};
+
+    ghost blank = { Control (record { kind = 0; rights = 0 }) };
+
+    fn blank() -> Entry {
+        Entry::Control(TypeControl {
+            kind: Kind::GENERIC,
+            rights: 0,
+        })
+    }
+
+    ghost infallible = { λ x. tt };
+
+    ghost clones = { λ x y e. e };
+}
+
 /// A table: its live entries in order of making, and how many bytes of its block are taken.
-#[derive(Debug, Drop)]
+#[derive(Clone, Copy, Debug)]
 pub struct Table {
     entries: BoundedList<Entry, ENTRIES>,
     claim: u32,
@@ -30,6 +48,8 @@ impl Model for Table {
 
     ghost view = { λ t. record { entries = t.entries; claim = t.claim } };
 
+    ghost inverse = { λ x. record { entries = x.entries; claim = x.claim } };
+
     ghost invariant = { λ t. t.claim ≤ 2048 };
 }
 
@@ -38,12 +58,8 @@ impl Table {
     pub(crate) fn new() -> Table
         ensures { result ≡ no_table }
     {
-        let blank = Entry::Control(TypeControl {
-            kind: Kind::GENERIC,
-            rights: 0,
-        });
         Table {
-            entries: BoundedList::new(blank),
+            entries: BoundedList::new(),
             claim: 0,
         }
     }

@@ -8,6 +8,10 @@ use Rattle.sharing.proofs.gathering.Gathering.of.Goals as goal
 pub take_contexts-requires : goal.take_contexts-requires
 take_contexts-requires g c = rw c.new.ensures (listed_first c.args.store.now)
 
+pub loop-step-init : goal.loop-step-init
+unfolding searched tasks_taken
+loop-step-init g c = (rw c.new.ensures at c.take_contexts.ensures.value, c.take_contexts.ensures.listed)
+
 pub returns-in_default : goal.returns-in_default
 unfolding gathered
 returns-in_default g c =

@@ -13,4 +13,4 @@ but_last (x ∷ xs) =
     simp unary_clauses (sym (ap popped (ap reverse (sym all ∙ take_more (x ∷ xs) n 0 (omega arith)) ∙ reverse-append (take n (x ∷ xs)) (get_or (x ∷ xs) n 0 ∷ []))))
 
 pub returns : goal.returns
-returns c = rw (c.truncate.ensures, c.saturating_sub-kept.ensures, c.len.ensures.value, ← c.self.view_is) (but_last c.self.inside.contexts)
+returns c = rw (c.pop.ensures, ← c.self.view_is) (but_last c.self.inside.contexts)
