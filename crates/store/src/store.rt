@@ -6,7 +6,7 @@ ghost use Rattle.rules.specs.Operators.{calling as calling_of};
 ghost use Rattle.rules.specs.State.{block_start, empty, entry as entry_at, held as held_at, level as level_of, named as named_by, shown as shown_at, stack as stack_at, table as table_at};
 ghost use Rattle.rules.specs.Tests.{current as current_of};
 ghost use Rattle.store.specs.Callers.{Names, descriptor_of};
-ghost use Rattle.store.specs.Orderly.{InTables, fits_table, is_object};
+ghost use Rattle.store.specs.Orderly.{InTables, IsOrderly, fits_table, is_object};
 
 use crate::operands::Found;
 use bank::Bank;
@@ -62,9 +62,11 @@ impl<B: Bank> Store<B> {
         }
     }
 
-    /// Whether loading has ended: load calls come before, operators after.
+    /// Whether loading has ended: load calls come before, operators after. The clause `order` says
+    /// of any store, sealed or not, in which order its tables and stacks stand.
     pub fn is_sealed(&self) -> bool
-        ensures { result ≡ self.now.sealed }
+        ensures value { result ≡ self.now.sealed }
+        ensures order { IsOrderly self.now }
     {
         self.directory.sealed // true once loading has ended
     }

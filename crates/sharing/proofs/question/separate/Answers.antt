@@ -127,19 +127,19 @@ returns-then-not-has_large_bank g c =
 pub returns-then-not-is_sealed : goal.returns-then-not-is_sealed
 returns-then-not-is_sealed g c =
     let answer : IsAnswer c.args.task c.args.store.now _ = refused_by _ _ _ _
-    (wrong_phase _ _ (sym c.has_large_bank.ensures ∙ c.if-not-has_large_bank.false) (sym c.is_sealed.ensures ∙ c.if-not-is_sealed.true))
+    (wrong_phase _ _ (sym c.has_large_bank.ensures ∙ c.if-not-has_large_bank.false) (sym c.is_sealed.ensures.value ∙ c.if-not-is_sealed.true))
     c.of_call-then-not-is_sealed.ensures in
     record { answer = answer; yes_lasts = yes_lasts; stays = stays_by _ _ _ answer }
 
 pub returns-then-level-eq0 : goal.returns-then-level-eq0
 returns-then-level-eq0 g c =
     let answer : IsAnswer c.args.task c.args.store.now _ = refused_by _ _ _ _
-    (no_task _ _ (sym c.has_large_bank.ensures ∙ c.if-not-has_large_bank.false) (sym c.is_sealed.ensures ∙ c.if-not-is_sealed.false) (sym c.level.ensures ∙ c.if-level-eq0.true))
+    (no_task _ _ (sym c.has_large_bank.ensures ∙ c.if-not-has_large_bank.false) (sym c.is_sealed.ensures.value ∙ c.if-not-is_sealed.false) (sym c.level.ensures ∙ c.if-level-eq0.true))
     c.of_call-then-level-eq0.ensures in
     record { answer = answer; yes_lasts = yes_lasts; stays = stays_by _ _ _ answer }
 
 pub returns : goal.returns
 returns g c =
-    let there = loaded c.args.store.now c.args.task (sym c.has_large_bank.ensures ∙ c.if-not-has_large_bank.false) (sym c.is_sealed.ensures ∙ c.if-not-is_sealed.false) (λ e. c.if-level-eq0.false (c.level.ensures ∙ e)) in
+    let there = loaded c.args.store.now c.args.task (sym c.has_large_bank.ensures ∙ c.if-not-has_large_bank.false) (sym c.is_sealed.ensures.value ∙ c.if-not-is_sealed.false) (λ e. c.if-level-eq0.false (c.level.ensures ∙ e)) in
     let answer : IsAnswer c.args.task c.args.store.now _ = told _ there.0 there.1 (separate_as_told _ _ _ _ _ c.by_types-own.ensures c.by_types-theirs.ensures c.meets.ensures) in
     record { answer = answer; yes_lasts = yes_lasts; stays = stays_by _ _ _ answer }
