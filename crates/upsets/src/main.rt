@@ -2,7 +2,9 @@
 // and the record read back.
 #![tactic(auto)]
 
-ghost use Rattle.std.specs.Prelude.{◌<◌};
+ghost use Rattle.std.specs.Prelude.{◌≡◌, ◌<◌};
+ghost use Rattle.magnetometer.specs.Records.{record_bytes};
+ghost use Rattle.magnetometer.specs.Upsets.{flipped};
 
 use magnetometer::{Record, Tally, flip_in_byte, flip_in_word};
 use std::io;
@@ -76,6 +78,7 @@ fn upsets(
 fn from_words(record: Record, word: usize, bit: u32) -> Record
     requires word { word < UNITS }
     requires bit { bit < 16 }
+    ensures { result ≡ «record» }
 {
     let mut words = [0u16; UNITS];
     record.store(&mut words, 0);
@@ -86,10 +89,12 @@ fn from_words(record: Record, word: usize, bit: u32) -> Record
     read
 }
 
-// The record as it is read from plain memory after one bit of one byte has flipped.
+// The record as it is read from plain memory after one bit of one byte has flipped: that bit of it
+// has flipped and no other.
 fn from_bytes(record: Record, byte: usize, bit: u32) -> Record
     requires byte { byte < UNITS }
     requires bit { bit < 8 }
+    ensures { record_bytes result ≡ flipped (record_bytes «record») byte bit }
 {
     let mut bytes = [0u8; UNITS];
     record.store(&mut bytes, 0);
