@@ -1,7 +1,7 @@
 // A replay: a store over a plain bank, whose calls are printed as steps, and the log of its faults.
 use bank::PlainBank;
 use rules::Fault;
-use std::io;
+use std::{fmt, io};
 use store::{SMALLEST_BANK, Store};
 
 #[derive(Drop)]
@@ -9,6 +9,19 @@ pub(crate) struct Replay<'a> {
     pub(crate) rt: &'a HostRuntime,
     pub(crate) store: Store<PlainBank<'a>>,
     faults: Vec<Fault>,
+}
+
+// Bytes as a line shows them, each behind a space.
+#[derive(Clone, Copy)]
+struct Bytes<'a>(&'a [u8]);
+
+impl fmt::Display for Bytes<'_> {
+    fn fmt<W: fmt::Write>(&self, f: &mut fmt::Formatter<W>) -> fmt::Result {
+        for byte in self.0.iter() {
+            write!(f, " {byte}")?;
+        }
+        Ok(())
+    }
 }
 
 // Prints a title, the steps on a new store, and the faults that they met.
@@ -68,11 +81,7 @@ impl<'a> Replay<'a> {
         if self.store.read(task, source, offset, bytes).is_err() {
             return println!(self.rt; "  {cannot}");
         }
-        print!(self.rt; "  {reads}:")?;
-        for byte in bytes.iter() {
-            print!(self.rt; " {byte}")?;
-        }
-        println!(self.rt; "")
+        println!(self.rt; "  {reads}:{}", Bytes(bytes))
     }
 
     // Prints all faults in their parts.
