@@ -10,7 +10,7 @@ use crate::types::{TYPES, Types};
 use bank::Bank;
 use rules::{Descriptor, Entry, Kind, Place, Right, Shown, TypeControl, is_valid};
 use store::Store;
-use tables::{BoundedList, TABLES};
+use tables::{PaddedList, TABLES};
 
 // The right by which an entry leads on: a type control adds rights by type right 2, and anything
 // else shows its slots by the right to read.
@@ -31,7 +31,7 @@ pub(crate) struct Gathering {
     // For each type the rights that obtained type controls add.
     added: [u8; TYPES],
     // The entries that are obtained with the right by which they lead on, as they were found.
-    leads: BoundedList<Position, PLACES>,
+    leads: PaddedList<Position, PLACES>,
 }
 
 impl Gathering {
@@ -44,7 +44,7 @@ impl Gathering {
         let mut gathering = Gathering {
             rights: [None; PLACES],
             added: [0; TYPES],
-            leads: BoundedList::new(),
+            leads: PaddedList::new(),
         };
         gathering.take_contexts(store, side);
         for step in 0..PLACES {

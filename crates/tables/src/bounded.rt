@@ -1,38 +1,24 @@
-// Lists of a bounded length that lie in the value itself.
-ghost use Rattle.std.specs.Prelude.{◌≡◌, ◌-◌, ◌<◌, ◌≤◌, List, [], ◌∷◌, ◌++◌, length, reverse, take, OnSome};
+// Lists of a bounded length, of items of any type that is `Copy`.
+ghost use Rattle.std.specs.Prelude.{◌≡◌, ◌<◌, ◌≤◌, List, [], ◌∷◌, ◌++◌, length, reverse, take, OnSome};
 ghost use Rattle.std.specs.List.{slice_get};
 
 use std::fmt;
 use std::marker::Model;
 
-/// An item of a bounded list, with the one that stands in a place that holds none.
-pub trait Item: Copy {
-    ghost blank: { Self };
-
-    /// What stands in a place that holds no item.
-    fn blank() -> Self
-        ensures { result ≡ blank };
-
-    // A copy of an item is the item.
-    ghost infallible: { (x : Self) → Self.is_infallible x };
-
-    ghost clones: { (x y : Self) → Self.is_clone x y → y ≡ x };
-}
-
-/// A list of at most `N` items, which lie in the value itself.
+/// A list of at most `N` items, which lie in the value itself. Its items are of any type that is
+/// `Copy`; it is not `Copy` itself, which a `PaddedList` is.
 //
-// They are the first `count` of an array. The places past the end are blank, so that two lists of
-// the same items are the same value, and a list can be copied.
-#[derive(Clone, Copy)]
-pub struct BoundedList<T: Item, const N: usize> {
+// They are the first `count` of an array. The items past the end are whatever was there, so that
+// cutting the list costs nothing.
+#[derive(Drop)]
+pub struct BoundedList<T: Copy, const N: usize> {
     items: [T; N],
     count: usize,
 }
 
-impl<T: Item, const N: usize> Model for BoundedList<T, N> {
-    ghost use Rattle.std.specs.Prelude.{◌≡◌, ◌-◌, ◌≤◌, ◌++◌, List, drop, length, replicate, take};
+impl<T: Copy, const N: usize> Model for BoundedList<T, N> {
+    ghost use Rattle.std.specs.Prelude.{◌≡◌, ◌≤◌, List, length, take};
     ghost use Rattle.std.specs.Coded.{coded_list};
-    ghost use Rattle.std.proofs.Common.{arith, ap, sym, ◌∙◌, take-append-drop, length-take-le};
 
     ghost Value = { List T };
 
@@ -40,32 +26,16 @@ impl<T: Item, const N: usize> Model for BoundedList<T, N> {
 
     ghost view = { λ l. take l.count l.items };
 
-    ghost invariant = { λ l. (l.count ≤ N) × (length l.items ≡ N)
-        × (drop l.count l.items ≡ replicate (N - l.count) T.blank) };
-
-    ghost inverse = { λ d. record {
-      items = d ++ replicate (N - length d) T.blank;
-      count = length d;
-    } };
-
-    ghost inverse_ok = { λ l h i.
-        let size : length (take l.count l.items) ≡ l.count =
-        length-take-le l.count l.items (omega (arith, h.0, h.1)) in
-        record {
-          items = (ap (λ n. take l.count l.items ++ replicate (N - n) T.blank) size
-              ∙ ap (λ xs. take l.count l.items ++ xs) (sym h.2)
-              ∙ take-append-drop l.count l.items) i;
-          count = size i;
-        } };
+    ghost invariant = { λ l. (l.count ≤ N) × (length l.items ≡ N) };
 }
 
-impl<T: Item, const N: usize> BoundedList<T, N> {
-    /// An empty list.
-    pub fn new() -> BoundedList<T, N>
+impl<T: Copy, const N: usize> BoundedList<T, N> {
+    /// An empty list, whose places hold the given item.
+    pub fn new(blank: T) -> BoundedList<T, N>
         ensures { result ≡ [] }
     {
         BoundedList {
-            items: [T::blank(); N],
+            items: [blank; N],
             count: 0,
         }
     }
@@ -106,32 +76,43 @@ impl<T: Item, const N: usize> BoundedList<T, N> {
         self.count += 1;
     }
 
-    /// Drops the last item, if there is one.
-    #[inline(always)]
-    pub fn pop(&mut self)
-        ensures { self.new ≡ take (length self.old - 1) self.old }
-    {
-        if self.count > 0 {
-            self.count -= 1;
-            self.items[self.count] = T::blank();
-        }
-    }
-
     /// Keeps the first items, so many.
     #[inline(always)]
     pub fn truncate(&mut self, count: usize)
         ensures { self.new ≡ take count self.old }
     {
-        let kept = self.count.min(count);
-        let places = &mut self.items[..];
-        places[kept..self.count].fill(T::blank());
-        self.count = kept;
+        self.count = self.count.min(count);
     }
 }
 
 // The items, and not what stands in the places past the end.
-impl<T: Item + fmt::Debug, const N: usize> fmt::Debug for BoundedList<T, N> {
+impl<T: Copy + fmt::Debug, const N: usize> fmt::Debug for BoundedList<T, N> {
     fn fmt<W: fmt::Write>(&self, f: &mut fmt::Formatter<W>) -> fmt::Result {
         f.debug_list().slice(&self.items[..self.count]).finish()
+    }
+}
+
+#[cfg(test)]
+mod tests {
+    use super::BoundedList;
+    use std::test::Fail;
+
+    #[test]
+    fn a_list_of_letters_is_filled_and_cut(rt: HostRuntime) -> Result<(), Fail> {
+        let mut letters: BoundedList<char, 3> = BoundedList::new('-');
+        assert_eq!(rt; letters.len(), 0);
+        assert_eq!(rt; letters.get(0), None);
+        letters.push('a');
+        letters.push('b');
+        letters.push('c');
+        assert_eq!(rt; letters.len(), 3);
+        assert_eq!(rt; letters.get(1), Some('b'));
+        assert_eq!(rt; letters.from_end(0), Some('c'));
+        letters.truncate(1);
+        assert_eq!(rt; letters.get(1), None);
+        assert_eq!(rt; letters.from_end(0), Some('a'));
+        let text = format!(in rt.alloc(); "{letters:?}")?;
+        assert_eq!(rt; text.as_str(), "['a']");
+        Ok(())
     }
 }

@@ -3,10 +3,12 @@
 
 mod bounded;
 mod directory;
+mod padded;
 mod stack;
 mod table;
 
-pub use bounded::{BoundedList, Item};
+pub use bounded::BoundedList;
 pub use directory::{Directory, TABLES};
+pub use padded::{Item, PaddedList};
 pub use stack::{LEVELS, Stack};
 pub use table::{BLOCK, ENTRIES, Table};

@@ -5,7 +5,7 @@ ghost use Rattle.rules.specs.Effects.{popped};
 ghost use Rattle.rules.specs.Operators.{calling as calling_of};
 ghost use Rattle.rules.specs.Tests.{current as current_of};
 
-use crate::bounded::{BoundedList, Item};
+use crate::padded::{Item, PaddedList};
 use crate::table::ENTRIES;
 use rules::Below;
 use std::marker::Model;
@@ -30,7 +30,7 @@ impl Item for Below<ENTRIES> {
 /// first.
 #[derive(Clone, Copy, Debug)]
 pub struct Stack {
-    contexts: BoundedList<Below<ENTRIES>, LEVELS>,
+    contexts: PaddedList<Below<ENTRIES>, LEVELS>,
 }
 
 impl Model for Stack {
@@ -52,7 +52,7 @@ impl Stack {
         ensures { result ≡ [] }
     {
         Stack {
-            contexts: BoundedList::new(),
+            contexts: PaddedList::new(),
         }
     }
 

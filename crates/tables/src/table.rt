@@ -5,7 +5,7 @@ ghost use Rattle.rules.specs.Effects.{grown};
 ghost use Rattle.rules.specs.State.{no_table, takes};
 ghost use Rattle.rules.specs.Tests.{has_room};
 
-use crate::bounded::{BoundedList, Item};
+use crate::padded::{Item, PaddedList};
 use rules::{Below, Entry, Kind, TypeControl};
 use std::marker::Model;
 
@@ -36,7 +36,7 @@ impl Item for Entry {
 /// A table: its live entries in order of making, and how many bytes of its block are taken.
 #[derive(Clone, Copy, Debug)]
 pub struct Table {
-    entries: BoundedList<Entry, ENTRIES>,
+    entries: PaddedList<Entry, ENTRIES>,
     claim: u32,
 }
 
@@ -59,7 +59,7 @@ impl Table {
         ensures { result ≡ no_table }
     {
         Table {
-            entries: BoundedList::new(),
+            entries: PaddedList::new(),
             claim: 0,
         }
     }

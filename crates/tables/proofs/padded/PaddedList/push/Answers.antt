@@ -1,6 +1,6 @@
 use Rattle.std.proofs.Common.{◌≡◌, ℕ, ◌+◌, ◌-◌, ◌≤◌, drop, take, length, replicate, sym, ap, ◌∙◌, arith, length-set, length-take-le}
 use Rattle.std.proofs.lemmas.List.{drop-drop, drop-replicate, drop-set-lt}
-use Rattle.tables.proofs.bounded.BoundedList.push.Goals as goal
+use Rattle.tables.proofs.padded.PaddedList.push.Goals as goal
 
 pub invariant_of-self : goal.invariant_of-self
 invariant_of-self g c =

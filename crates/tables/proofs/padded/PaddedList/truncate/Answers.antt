@@ -2,7 +2,7 @@ use borrow.Rule.Slice.PartMut.{put_mid, same_len_mid}
 use Rattle.std.proofs.Common.{◌≡◌, ℕ, ◌-◌, ◌≤◌, ◌++◌, drop, take, length, replicate, sym, ap, ◌∙◌, arith, length-take-le, rules}
 use Rattle.std.proofs.Math.Seq.{drop-append_seam}
 use Rattle.std.proofs.lemmas.List.{drop-drop, replicate-append-replicate}
-use Rattle.tables.proofs.bounded.BoundedList.truncate.Goals as goal
+use Rattle.tables.proofs.padded.PaddedList.truncate.Goals as goal
 
 pub invariant_of-self : goal.invariant_of-self
 invariant_of-self g c =
